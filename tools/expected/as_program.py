@@ -21,6 +21,7 @@ import judge_inputs
 import judge_why
 import migrate
 import program
+import retold
 import schedule
 import traces
 
@@ -74,6 +75,8 @@ def by_chart(words):
 
 def by_judge(words):
     """What `check` says; with `--why` of traces that are refused alone."""
+    if "--story" in words:
+        return retold.main(words)
     if "--why" in words:
         return judge_why.main([word for word in words if word not in ("--why", "--json", "--records", "--counts")])
     if "--counts" in words:

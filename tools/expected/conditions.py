@@ -197,15 +197,16 @@ def holds(condition, statuses, number_of, output):
     return {"any": any, "all": all}[kind](holds(one, statuses, number_of, output) for one in inside)
 
 
-def answer(question, truths, is_whole=True, is_stuck=False):
-    """The line of an answer and the exit status, by the truth of the condition for each outcome that was found."""
+def answer(question, truths, is_whole=True, is_stuck=False, named_as="outcomes"):
+    """The line of an answer and the exit status, by the truth of the condition for each outcome that was found, or, of a
+    sample, which isn't whole, for each end that came."""
     if question == "never-stuck":
         said = ("no" if is_stuck else "yes") if is_whole else "unknown"
         return f"never-stuck: {said}", {"yes": 0, "no": 1, "unknown": 3}[said]
     named = [k for k, truth in enumerate(truths, 1) if truth == (question != "forall")]
     by_one, by_none = ("yes", "no") if question == "exists" else ("no", "yes")
     if named:
-        return f"{question}: {by_one}, outcomes {' '.join(map(str, named))}", 0 if by_one == "yes" else 1
+        return f"{question}: {by_one}, {named_as} {' '.join(map(str, named))}", 0 if by_one == "yes" else 1
     said = by_none if is_whole else "unknown"
     return f"{question}: {said}", {"yes": 0, "no": 1, "unknown": 3}[said]
 

@@ -12,7 +12,8 @@ DEFAULTS = {
 }
 # How many files each command has, and which options beside `--config` and `--harts`; `list` hasn't the second one.
 COMMANDS = {
-    "step": (2, ("--records", "--show", "--looks", "--names")), "plain": (2, ("--records", "--names", "--story", "--all")),
+    "step": (2, ("--records", "--show", "--looks", "--names", "--story", "--all")),
+    "plain": (2, ("--records", "--names", "--story", "--all")),
     "list": (1, ("--names",)),
     "explain": (1, ()),
 }

@@ -2,6 +2,7 @@
 docs/FORMATS.md says it.
 
     python3 tools/expected/program.py step IMAGE SCRIPT [--config FILE] [--harts N] [--records] [--show] [--looks]
+        [--story [--all]]
     python3 tools/expected/program.py plain IMAGE ORDER [--config FILE] [--records] [--story [--all]]
     python3 tools/expected/program.py plain IMAGE --rounds K [--steps N] [--seed S] [--config FILE] [--records]
     python3 tools/expected/program.py list IMAGE [--config FILE]
@@ -158,6 +159,7 @@ def asked(made, settings, second, line):
     asks = inputs.read_script(second)
     machine = core.Core(made, settings)
     out = list(make_asks(machine, asks))
+    out += told_of(made, settings, retired_in(machine.records), line) if line["story"] else []
     out += tables(machine) if line["show"] else []
     out += [looked(machine)] if line["looks"] else []
     out += report(machine, line["records"])
@@ -171,6 +173,11 @@ def ordered(made, settings, second, line):
     records = list(make_steps(machine, order))
     told = list(told_of(made, settings, order, line)) if line["story"] else []
     return told + list(plain_report(machine, records, line["records"])), exit_status(machine.statuses)
+
+
+def retired_in(records):
+    """The order of retirement: the harts of these records."""
+    return [int(record.split(" ")[0]) for record in records]
 
 
 def told_of(made, settings, order, line):

@@ -118,7 +118,8 @@ def config_text(config):
 
 
 def some_options(r):
-    return [option for option in ("--records", "--show", "--looks") if r.random() < 0.6]
+    found = [option for option in ("--records", "--show", "--looks") if r.random() < 0.6]
+    return found + r.choice(([], [], ["--story"], ["--story", "--all"]))
 
 
 def inputs_that_write_code(r):

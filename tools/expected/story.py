@@ -41,7 +41,7 @@ def remark(rows, h, name, what):
         write = f"hart {others[0][1]}'s {others[0][2]} at row {others[0][0]}"
         if name == "lr.w":
             return f", ABA: as at row {number}, though {write} wrote since"
-        return f", lost update: {write} came after its read at row {number}"
+        return f", lost update: {write} came after the read at row {number}"
     return ""
 
 

@@ -118,7 +118,7 @@ class Tables:
         if read[2].split(" ")[0] not in LOADING:
             return ""
         if name != "lr.w":
-            return f"lost update: {named} came after its read at row {own}"
+            return f"lost update: {named} came after the read at row {own}"
         same = read[2].split(" ")[0] in ("lw", "lr.w") and read[2].split(" ")[1:] == fields
         return f"ABA: as at row {own}, though {named} wrote since" if same else ""
 

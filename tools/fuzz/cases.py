@@ -22,6 +22,7 @@ import migrate
 import outcomes_compare
 import program
 import random_runs
+import retold
 import schedule
 import traces
 from trace_changes import changed, other_head
@@ -74,6 +75,11 @@ def late(_signal, _frame):
     raise TooLong
 
 
+def as_read(text):
+    """A text as a program's output is read: a character for each of its bytes."""
+    return text.encode("utf-8", "surrogateescape").decode("latin-1")
+
+
 def captured(main, words):
     """What a model prints and answers that is a program of its own."""
     out, err = io.StringIO(), io.StringIO()
@@ -84,7 +90,7 @@ def captured(main, words):
         return "", f"smtsim: {refused.why}\n", refused.status
     except judge_inputs.Refused as refused:
         return "", f"smtsim: {refused.said}\n", refused.status
-    return out.getvalue(), err.getvalue(), status
+    return as_read(out.getvalue()), err.getvalue(), status
 
 
 # ---- What the models say
@@ -92,7 +98,7 @@ def captured(main, words):
 
 def by_model(line):
     out, err, status = program.run(line)
-    return "".join(f"{t}\n" for t in out), "".join(f"{t}\n" for t in err), status
+    return as_read("".join(f"{t}\n" for t in out)), "".join(f"{t}\n" for t in err), status
 
 
 def by_explanation(line):
@@ -100,12 +106,11 @@ def by_explanation(line):
     out, err, status = program.run(line)
     if not out:
         raise TooLong
-    text = "".join(f"{t}\n" for t in out).encode("utf-8", "surrogateescape")
-    return text.decode("latin-1"), "".join(f"{t}\n" for t in err), status
+    return as_read("".join(f"{t}\n" for t in out)), "".join(f"{t}\n" for t in err), status
 
 
 def by_judge(line):
-    return captured(judge.main, line[1:])
+    return captured(retold.main if "--story" in line else judge.main, line[1:])
 
 
 def by_why(line):
@@ -244,7 +249,8 @@ def some_trace(r):
 
 
 def some_check(r):
-    return some_trace(r), ["check", "image.elf", "trace", "--config", "config.toml", "--records"][: r.choice((5, 6))]
+    line = ["check", "image.elf", "trace", "--config", "config.toml", "--records"][: r.choice((5, 6))]
+    return some_trace(r), line + r.choice(([], ["--story"], ["--story", "--all"]))
 
 
 def some_why(r):

@@ -31,7 +31,7 @@ def smaller_parts(parts, still):
 
 def smaller_line(case, differs):
     """The case without the options that it doesn't take to differ."""
-    for option in ("--records", "--show", "--looks"):
+    for option in ("--records", "--show", "--looks", "--all", "--story"):
         if option in case.line:
             fewer = case._replace(line=[word for word in case.line if word != option])
             case = fewer if differs(fewer) else case

@@ -7,7 +7,7 @@ use Rattle.command_parts.specs.declared.refused.Refused.TheVariants.{Prediction,
 use Rattle.command_parts.specs.declared.refused.Refused.TheVariants.{Lines, NamesNothing, NamesSeveral, NeverFetched, Turned}
 use Rattle.command_parts.specs.declared.refused.Refused.TheVariants.{Watch, Condition, ManyWatched, NoWord}
 use Rattle.command_parts.specs.declared.refused.Refused.TheVariants.{NoOutcome, NotStuck, NoAnswer, Litmus}
-use Rattle.command_parts.specs.declared.refused.Refused.TheVariants.{NothingToDraw}
+use Rattle.command_parts.specs.declared.refused.Refused.TheVariants.{NothingToDraw, LongStory}
 use Rattle.command_parts.specs.Refused.{PassesAll, BehindImage}
 
 -- What is refused of what comes behind it, where that never refuses the image.
@@ -33,6 +33,7 @@ refusal_behind file ram P (NamesSeveral option) never passes is = (passes, is)
 refusal_behind file ram P (NeverFetched option) never passes is = (passes, is)
 refusal_behind file ram P (Turned from to) never passes is = (passes, is)
 refusal_behind file ram P (Picture last) never passes is = (passes, is)
+refusal_behind file ram P LongStory never passes is = (passes, is)
 refusal_behind file ram P (Watch why) never passes is = (passes, is)
 refusal_behind file ram P (Condition why) never passes is = (passes, is)
 refusal_behind file ram P ManyWatched never passes is = (passes, is)

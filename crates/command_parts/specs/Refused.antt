@@ -14,7 +14,7 @@ use Rattle.command_parts.specs.declared.refused.Refused.TheVariants.{Register, N
 use Rattle.command_parts.specs.declared.refused.Refused.TheVariants.{Picture, Memory, Thread, File, Output}
 use Rattle.command_parts.specs.declared.refused.Refused.TheVariants.{Watch, Condition, ManyWatched, NoWord}
 use Rattle.command_parts.specs.declared.refused.Refused.TheVariants.{NoOutcome, NotStuck, NoAnswer, Litmus}
-use Rattle.command_parts.specs.declared.refused.Refused.TheVariants.{NothingToDraw}
+use Rattle.command_parts.specs.declared.refused.Refused.TheVariants.{NothingToDraw, LongStory}
 use Rattle.command_parts.specs.declared.refused.Refused.TheVariants.{Lines, NamesNothing, NamesSeveral, NeverFetched, Turned}
 use Rattle.command_parts.specs.declared.refused.Unread.TheVariants as unread
 
@@ -36,6 +36,7 @@ exit_status_of (NoUnit kind) = 2
 exit_status_of (Limit least) = 2
 exit_status_of (NoHart hart) = 2
 exit_status_of (Picture last) = 2
+exit_status_of LongStory = 2
 exit_status_of (Lines line fault) = 2
 exit_status_of (NamesNothing option) = 2
 exit_status_of (NamesSeveral option) = 2

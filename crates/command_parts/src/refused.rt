@@ -80,6 +80,9 @@ pub enum Refused {
     /// A picture would have too many instructions; one up to this event has few enough.
     #[error("picture of more than 4000 instructions: --to {0} would do")]
     Picture(u32),
+    /// The story of an order that was to be drawn has too many rows.
+    #[error("picture of more than 1000 rows")]
+    LongStory,
     /// The list of what is watched is misspelled.
     #[error("watch refused at column {}: expected {}", .0.column, .0.expected)]
     Watch(QueryRefused),
@@ -134,7 +137,7 @@ impl Refused {
             Refused::Image(_) | Refused::Config | Refused::Harts => 2,
             Refused::Script(_) | Refused::Order(_) | Refused::Step { .. } => 2,
             Refused::NoUnit(_) | Refused::Limit(_) => 2,
-            Refused::NoHart(_) | Refused::Picture(_) => 2,
+            Refused::NoHart(_) | Refused::Picture(_) | Refused::LongStory => 2,
             Refused::Lines { .. } | Refused::NamesNothing(_) | Refused::NamesSeveral(_) => 2,
             Refused::NeverFetched(_) | Refused::Turned { .. } => 2,
             Refused::Watch(_) | Refused::Condition(_) | Refused::ManyWatched => 2,

@@ -7,3 +7,4 @@ pub mod OfTest
 pub mod OfMigration
 pub mod OfRuns
 mod OfLabels
+mod OfCores

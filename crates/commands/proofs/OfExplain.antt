@@ -22,7 +22,7 @@ use Rattle.command_parts.specs.declared.refused.Refused.TheVariants.{Lines, Name
 use Rattle.command_parts.specs.declared.refused.Refused.TheVariants.{Turned}
 use Rattle.command_parts.specs.declared.refused.Refused.TheVariants.{Watch, Condition, ManyWatched, NoWord}
 use Rattle.command_parts.specs.declared.refused.Refused.TheVariants.{NoOutcome, NotStuck, NoAnswer, Litmus}
-use Rattle.command_parts.specs.declared.refused.Refused.TheVariants.{NothingToDraw}
+use Rattle.command_parts.specs.declared.refused.Refused.TheVariants.{NothingToDraw, LongStory}
 use Rattle.command_parts.specs.declared.refused.Unread.{Unread}
 use Rattle.command_parts.specs.declared.refused.Unread.TheVariants as unread
 use Rattle.command_parts.specs.Refused.{refusal_of, IsFirstFailed, AreAccepted, IsImageRefusal, PassesAll}
@@ -144,6 +144,7 @@ writing_refusal config image old new ManyWatched is = absurd is
 writing_refusal config image old new (NoWord address) is = absurd is
 writing_refusal config image old new (NoOutcome number) is = absurd is
 writing_refusal config image old new NotStuck is = absurd is
+writing_refusal config image old new LongStory is = absurd is
 writing_refusal config image old new NoAnswer is = absurd is
 writing_refusal config image old new Memory is = (tt, tt)
 writing_refusal config image old new Thread is = absurd is
@@ -212,6 +213,7 @@ config_refusal config image ManyWatched is = absurd is
 config_refusal config image (NoWord address) is = absurd is
 config_refusal config image (NoOutcome number) is = absurd is
 config_refusal config image NotStuck is = absurd is
+config_refusal config image LongStory is = absurd is
 config_refusal config image NoAnswer is = absurd is
 config_refusal config image Memory is = tt
 config_refusal config image Thread is = absurd is
@@ -250,6 +252,7 @@ loaded_refusal config settings file ManyWatched configured is = absurd is
 loaded_refusal config settings file (NoWord address) configured is = absurd is
 loaded_refusal config settings file (NoOutcome number) configured is = absurd is
 loaded_refusal config settings file NotStuck configured is = absurd is
+loaded_refusal config settings file LongStory configured is = absurd is
 loaded_refusal config settings file NoAnswer configured is = absurd is
 loaded_refusal config settings file Memory configured is = tt
 loaded_refusal config settings file Thread configured is = absurd is

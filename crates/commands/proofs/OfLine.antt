@@ -21,7 +21,7 @@ use Rattle.command_parts.specs.declared.refused.Refused.TheVariants.{Lines, Name
 use Rattle.command_parts.specs.declared.refused.Refused.TheVariants.{Turned}
 use Rattle.command_parts.specs.declared.refused.Refused.TheVariants.{Watch, Condition, ManyWatched, NoWord}
 use Rattle.command_parts.specs.declared.refused.Refused.TheVariants.{NoOutcome, NotStuck, NoAnswer, Litmus}
-use Rattle.command_parts.specs.declared.refused.Refused.TheVariants.{NothingToDraw}
+use Rattle.command_parts.specs.declared.refused.Refused.TheVariants.{NothingToDraw, LongStory}
 use Rattle.command_parts.specs.declared.refused.Unread.{Unread}
 use Rattle.command_parts.specs.declared.refused.Unread.TheVariants as unread
 use Rattle.command_parts.specs.Refused.{exit_status_of, refusal_of, AreAccepted, PassesAll}
@@ -81,6 +81,7 @@ module _ (harts : Option ℕ) (command : ProgramCommand) (text : List ℕ) (own 
   lines_refusal (NoWord address) is = absurd is
   lines_refusal (NoOutcome number) is = absurd is
   lines_refusal NotStuck is = absurd is
+  lines_refusal LongStory is = absurd is
   lines_refusal NoAnswer is = absurd is
   lines_refusal (Litmus place fault) is = absurd is
   lines_refusal NothingToDraw is = absurd is
@@ -130,6 +131,7 @@ module _ (harts : Option ℕ) (command : ProgramCommand) (text : List ℕ) (own 
   command_refusal (NoWord address) is = (own, configured, (passes, program, loaded, (names, named, is)))
   command_refusal (NoOutcome number) is = (own, configured, (passes, program, loaded, (names, named, is)))
   command_refusal NotStuck is = (own, configured, (passes, program, loaded, (names, named, is)))
+  command_refusal LongStory is = (own, configured, (passes, program, loaded, (names, named, is)))
   command_refusal NoAnswer is = (own, configured, (passes, program, loaded, (names, named, is)))
   command_refusal (Litmus place fault) is = (own, configured, (passes, program, loaded, (names, named, is)))
   command_refusal NothingToDraw is = (own, configured, (passes, program, loaded, (names, named, is)))
@@ -250,6 +252,7 @@ known_refusal ManyWatched status is = inr (inl is)
 known_refusal (NoWord address) status is = inr (inl is)
 known_refusal (NoOutcome number) status is = inr (inl is)
 known_refusal NotStuck status is = inr (inl is)
+known_refusal LongStory status is = inr (inl is)
 known_refusal NoAnswer status is = inr (inl is)
 known_refusal (Litmus place fault) status is = inr (inl is)
 known_refusal NothingToDraw status is = inr (inl is)
@@ -285,6 +288,7 @@ never_says ManyWatched = refl
 never_says (NoWord address) = refl
 never_says (NoOutcome number) = refl
 never_says NotStuck = refl
+never_says LongStory = refl
 never_says NoAnswer = refl
 never_says (Litmus place fault) = refl
 never_says NothingToDraw = refl

@@ -46,6 +46,7 @@ module _ (text file : List ℕ) (settings : Settings) (configured : IsConfigurat
   migrate_refusal (reason.NoWord address) is = absurd is
   migrate_refusal (reason.NoOutcome number) is = absurd is
   migrate_refusal reason.NotStuck is = absurd is
+  migrate_refusal reason.LongStory is = absurd is
   migrate_refusal reason.NoAnswer is = absurd is
   migrate_refusal (reason.Litmus place fault) is = absurd is
   migrate_refusal reason.NothingToDraw is = absurd is

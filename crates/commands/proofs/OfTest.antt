@@ -40,6 +40,7 @@ module _ (litmus : LitmusCommand) (text file : List ℕ) (settings : Settings)
   test_refusal (reason.NoWord address) is = absurd is
   test_refusal (reason.NoOutcome number) is = absurd is
   test_refusal reason.NotStuck is = absurd is
+  test_refusal reason.LongStory is = absurd is
   test_refusal reason.NoAnswer is = absurd is
   test_refusal (reason.Litmus place fault) is = (settings, configured, is)
   test_refusal reason.NothingToDraw is = (settings, configured, is)

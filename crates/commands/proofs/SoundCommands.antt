@@ -25,10 +25,12 @@ use Rattle.sim_inputs.specs.declared.line.ListCommand.{ListCommand}
 use Rattle.sim_inputs.specs.declared.line.ChartCommand.{ChartCommand}
 use Rattle.sim_inputs.specs.declared.line.OutcomesCommand.{OutcomesCommand}
 use Rattle.report_lines.specs.{Lines.status_number, Statuses.says_harts}
-use Rattle.stress_runs.specs.{End.EndView, Ends.end_of, Ends.worst_of}
+use Rattle.watched_outcomes.specs.Endings.{Ending}
+use Rattle.stress_runs.specs.{Ends.end_of, Ends.rows_of, Ends.tally_of, Ends.worst_of, Answers.sampled_answer}
+use Rattle.core_commands.specs.{Stress.stress_status}
 use Rattle.command_parts.specs.Refused.{AreAccepted, AreRefused}
-use Rattle.commands.specs.{Commands.RunsComeTo, Written.ToWrite}
-use Rattle.core_commands.specs.{Run.LackARole}
+use Rattle.commands.specs.{Commands.RunsComeTo, Commands.IsRunsRefusal, Written.ToWrite}
+use Rattle.core_commands.specs.{Run.LackARole, Run.IsRunRefusal}
 use Rattle.command_parts.specs.Inputs.{Read}
 use Rattle.core_commands.specs.{Account.statuses_of}
 use Rattle.plain_commands.specs.{Plain.standing}
@@ -94,25 +96,36 @@ of_step step settings program names lines (Err why) = record {
 greater_of : (m n : ℕ) → (max m n ≡ m) ⊎ (max m n ≡ n)
 greater_of m n = elim (cases_lt m n) [ inl less ↦ inr (omega arith) | inr more ↦ inl (omega arith) ]
 
-worst_says : (ends : List EndView) → IsTrue (says_harts (worst_of ends))
+worst_says : (ends : List Ending) → IsTrue (says_harts (worst_of ends))
 worst_says [] = refl
 worst_says (end ∷ past) = elim (greater_of (worst_of past) (status_number end.statuses)) [
   | inl before ↦ ap says_harts before ∙ worst_says past
   | inr now ↦ status_says (worst_of (end ∷ past)) end.statuses now
 ]
 
+answer_says : (answer : Answer) → IsTrue (says_harts (status_of_answer answer))
+answer_says answers.Yes = refl
+answer_says answers.No = refl
+answer_says answers.Unknown = refl
+
+-- The exit status of many runs is that of the worst, or goes with what their ends answer.
+stress_says : (watch : Watch) (question : Option Question) (ends : List Ending)
+    → IsTrue (says_harts (stress_status watch question (tally_of ends)))
+stress_says watch None ends = worst_says ends
+stress_says watch (Some question) ends = answer_says (sampled_answer watch question (rows_of ends))
+
 -- One run, or as many as are asked for.
-module _ (run : RunCommand) (settings : Settings) (program : ProgramImage) (marks : Marks) (Traced : ToWrite → Type 0)
-    (old : Option (List ℕ)) (status : ℕ) where
+module _ (run : RunCommand) (settings : Settings) (program : ProgramImage) (names : Table) (marks : Marks)
+    (Traced : ToWrite → Type 0) (old : Option (List ℕ)) (status : ℕ) where
   run_accepted : (times : Option ℕ) (new : Option (List ℕ))
-      → RunsComeTo times run settings program marks Traced old new status
+      → RunsComeTo times run settings program names marks Traced old new status
       → AreAccepted settings × (LackARole settings → ⊥)
   run_accepted None new is = (is.accepted, is.manned)
   run_accepted (Some times) new is = (is.accepted, is.manned)
 
   run_flushed : (times : Option ℕ) (mid new : Option (List ℕ)) → Keeps mid new
-      → RunsComeTo times run settings program marks Traced old mid status
-      → RunsComeTo times run settings program marks Traced old new status
+      → RunsComeTo times run settings program names marks Traced old mid status
+      → RunsComeTo times run settings program names marks Traced old new status
   run_flushed None mid new flushed is = record {
     accepted = is.accepted;
     manned = is.manned;
@@ -128,6 +141,12 @@ module _ (run : RunCommand) (settings : Settings) (program : ProgramImage) (mark
   run_flushed (Some times) mid new flushed is = record {
     accepted = is.accepted;
     manned = is.manned;
+    question = is.question;
+    all = is.all;
+    watch = is.watch;
+    asking = is.asking;
+    watches = is.watches;
+    there = is.there;
     cores = is.cores;
     many = is.many;
     are = is.are;
@@ -137,27 +156,51 @@ module _ (run : RunCommand) (settings : Settings) (program : ProgramImage) (mark
   }
 
   run_says : (times : Option ℕ) (new : Option (List ℕ))
-      → RunsComeTo times run settings program marks Traced old new status → IsTrue (says_harts status)
+      → RunsComeTo times run settings program names marks Traced old new status → IsTrue (says_harts status)
   run_says None new is = status_says status (statuses_of is.core) is.harts
-  run_says (Some times) new is = ap says_harts is.stands ∙ worst_says (map end_of is.cores)
+  run_says (Some times) new is =
+      ap says_harts is.stands ∙ stress_says is.watch is.question (map (end_of is.watch) is.cores)
+
+module _ (run : RunCommand) (settings : Settings) (program : ProgramImage) (names : Table) where
+  run_no_image : (times : Option ℕ) (number : ℕ) → IsRunsRefusal times run settings program names (Image number) → ⊥
+  run_no_image None number is = is
+  run_no_image (Some times) number is = is
+
+  run_no_harts : (times : Option ℕ) → IsRunsRefusal times run settings program names Harts → ⊥
+  run_no_harts None is = is
+  run_no_harts (Some times) is = is
+
+  run_no_lines : (times : Option ℕ) (number : ℕ) (fault : LineFault)
+      → IsRunsRefusal times run settings program names (Lines number fault) → ⊥
+  run_no_lines None number fault is = is
+  run_no_lines (Some times) number fault is = is
+
+  run_config : (times : Option ℕ) → IsRunsRefusal times run settings program names Config → IsRunRefusal settings Config
+  run_config None is = is
+  run_config (Some times) is = is
+
+  run_output : (times : Option ℕ) → AreAccepted settings × (LackARole settings → ⊥)
+      → IsRunsRefusal times run settings program names Output
+  run_output None is = is
+  run_output (Some times) is = is
 
 of_run : (run : RunCommand) (settings : Settings) (program : ProgramImage) (names : Table)
     (lines : Option (List Origin)) (second : Read)
     → IsSound (commands.Run run) settings program names lines second
 of_run run settings program names lines second = record {
-  no_image = λ number is. is;
-  no_harts = λ is. is;
-  no_lines = λ number fault is. is;
-  unfit = λ accepted is. elim is [
+  no_image = λ number is. run_no_image run settings program names run.times number is;
+  no_harts = λ is. run_no_harts run settings program names run.times is;
+  no_lines = λ number fault is. run_no_lines run settings program names run.times number fault is;
+  unfit = λ accepted is. elim (run_config run settings program names run.times is) [
     | inl refused ↦ absurd (never_refused settings accepted refused)
     | inr lacks ↦ lacks.1
   ];
-  output = λ Traced old new status is. run_accepted run settings program
-      (marks_where run.names names lines) Traced old status run.times new is;
+  output = λ Traced old new status is. run_output run settings program names run.times
+      (run_accepted run settings program names (marks_where run.names names lines) Traced old status run.times new is);
   flushed = λ Traced old mid new status flushed is.
-      run_flushed run settings program
+      run_flushed run settings program names
       (marks_where run.names names lines) Traced old status run.times mid new flushed is;
-  says = λ Traced old new status is. run_says run settings program
+  says = λ Traced old new status is. run_says run settings program names
       (marks_where run.names names lines) Traced old status run.times new is;
 }
 
@@ -259,6 +302,9 @@ of_plain plain settings program names lines (Ok order) = record {
         runs = of.runs;
         printed = kept old mid new _ of.printed flushed;
         stands = of.stands;
+        text = of.text;
+        is_text = of.is_text;
+        put = of.put;
       }) is;
   says = λ Traced old new status is.
       from_rounds (rounds_of plain) _ _ _
@@ -383,11 +429,6 @@ extent_says : (extent : Extent) → IsTrue (says_harts (status_of_extent extent)
 extent_says extents.Whole = refl
 extent_says extents.Beyond = refl
 extent_says extents.First = refl
-
-answer_says : (answer : Answer) → IsTrue (says_harts (status_of_answer answer))
-answer_says answers.Yes = refl
-answer_says answers.No = refl
-answer_says answers.Unknown = refl
 
 found_says : (watch : Watch) (question : Option Question) (found : Found)
     → IsTrue (says_harts (status_found watch question found))

@@ -1,15 +1,17 @@
 //! What stands beside the addresses that a command shows.
 
-ghost use Rattle.std.specs.Prelude.{◌≡◌, IfSome, option_map};
+ghost use Rattle.std.specs.Prelude.{◌≡◌, IfSome, is_some, option_map};
 ghost use Rattle.symbols.specs.Tables.{table_of};
 ghost use Rattle.address_labels.specs.Labels.{marks_of, marks_where};
-ghost use Rattle.commands.specs.Commands.{origins_in, story_plan};
+ghost use Rattle.commands.specs.Commands.{drawn_plan, origins_in, story_plan};
 ghost use Rattle.story_text.specs.Text.{plan_of};
+ghost use Rattle.story_pictures.specs.Form.{plan_of as drawn_plan_of};
 ghost use Rattle.sim_inputs.specs.Files.{shows_names};
 
 use address_labels::Labels;
 use sim_inputs::{PlainCommand, ProgramCommand, Settings};
 use source_lines::SourceLines;
+use story_pictures::{PictureForm, theme_or};
 use story_text::StoryForm;
 use symbols::Symbols;
 
@@ -57,5 +59,29 @@ pub(crate) fn story_for<'a>(
         all: plain.all,
         names,
         labels: *labels,
+    })
+}
+
+/// How a picture of that story is drawn, where it is wanted. Whether its order ends in a stuck state isn't known.
+pub(crate) fn picture_for<'a>(
+    plain: &PlainCommand<'_>,
+    settings: &Settings,
+    names: &'a Symbols<'a>,
+    labels: &'a Labels<'a>,
+) -> Option<PictureForm<'a, 'a>>
+    ensures plan { option_map drawn_plan_of result
+        ≡ drawn_plan plain.now settings.now (table_of names.now) (marks_of labels.now) }
+    ensures drawn { is_some result ≡ is_some plain.now.story_svg }
+{
+    if plain.story_svg.is_none() {
+        return None;
+    }
+    Some(PictureForm {
+        harts: settings.config.harts,
+        names,
+        labels: *labels,
+        is_stuck: false,
+        foot: b"",
+        theme: theme_or(plain.theme),
     })
 }

@@ -18,7 +18,7 @@ ghost use Rattle.event_text.specs.Sinking.{HasPut};
 ghost use Rattle.commands.specs.Written.{IsWritten};
 
 use crate::explain_line::read_and_explain;
-use crate::labelling::{labels_for, story_for};
+use crate::labelling::{labels_for, picture_for, story_for};
 use crate::list::perform_list;
 use crate::naming::{names_where, wants_names};
 use crate::runs::perform_runs;
@@ -302,13 +302,13 @@ fn perform_command<
     let labels = &labels_for(command, names, lines);
     match command {
         ProgramCommand::Step(step) => {
-            let wanted = Wanted::of_step(step);
+            let wanted = Wanted::of_step(step, names);
             let script = second?;
             perform_step(context, image, settings, script, step.why, wanted, labels)
         }
-        ProgramCommand::Run(run) => perform_runs(context, image, settings, run, labels),
+        ProgramCommand::Run(run) => perform_runs(context, image, settings, run, names, labels),
         ProgramCommand::Check(check) => {
-            let wanted = Wanted::of_check(check);
+            let wanted = Wanted::of_check(check, names);
             let text = second?;
             perform_check(
                 image,
@@ -326,15 +326,16 @@ fn perform_command<
             }
             let order = second?;
             let story = &story_for(plain, settings, names, labels);
+            let picture = &picture_for(plain, settings, names, labels);
             perform_plain(
+                context,
                 image,
                 settings,
                 order,
                 story,
+                picture,
                 plain.records,
                 labels,
-                &mut context.out,
-                alloc,
             )
         }
         ProgramCommand::Schedule(_) => {

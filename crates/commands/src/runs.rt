@@ -2,7 +2,7 @@
 
 ghost use Rattle.std.specs.Prelude.{◌≡◌, List, Option, true, false};
 ghost use Rattle.sim_inputs.specs.declared.line.ProgramCommand.TheVariants.{Run};
-ghost use Rattle.symbols.specs.Tables.{Table};
+ghost use Rattle.symbols.specs.Tables.{table_of};
 ghost use Rattle.source_lines.specs.Lines.{Origin};
 ghost use Rattle.address_labels.specs.Labels.{marks_of, marks_where};
 ghost use Rattle.command_parts.specs.Inputs.{Read};
@@ -19,6 +19,7 @@ use std::io::Write;
 use std::sync::Wait;
 use std::thread::Threads;
 use stress_runs::EndFiles;
+use symbols::Symbols;
 
 /// Runs an image once, or as often as is asked for.
 pub(crate) fn perform_runs<
@@ -32,20 +33,20 @@ pub(crate) fn perform_runs<
     image: &Image,
     settings: &Settings,
     run: &RunCommand<'_>,
+    names: &Symbols<'_>,
     labels: &Labels<'_>,
 ) -> Result<u8, Refused>
     requires works { S.has_failed context.old.files ≡ false }
     requires finished { S.is_finished context.old.files ≡ true }
-    ensures { (names : Table) (lines : Option (List Origin)) (second : Read)
-        → marks_of labels.now ≡ marks_where run.now.names names lines
+    ensures { (lines : Option (List Origin)) (second : Read)
+        → marks_of labels.now ≡ marks_where run.now.names (table_of names.now) lines
         → IsPerformed S.begins S.is_finished S.written S.has_failed context.old.files context.new.files
-        (Run run.now) settings.now image.now names lines second (W.contents context.old.out)
+        (Run run.now) settings.now image.now (table_of names.now) lines second (W.contents context.old.out)
         (W.contents context.new.out)
         result }
 {
     if let Some(times) = run.times {
-        let keep = run.keep.is_some();
-        return perform_stress(context, image, settings, times, keep);
+        return perform_stress(context, image, settings, names, run, times);
     }
     let wanted = Wanted::of_run(run);
     perform_run(context, image, settings, wanted, labels)

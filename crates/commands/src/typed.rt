@@ -19,7 +19,7 @@ ghost use Rattle.symbols.specs.Tables.{table_of};
 ghost use Rattle.address_labels.specs.Labels.{marks_where};
 
 use crate::labelling::labels_where;
-use crate::naming::names_where;
+use crate::naming::{names_where, step_wants_names};
 use crate::performing::refuse_line;
 use crate::settings::settings_with;
 use command_parts::{Context, Inputs, Refused, image_of, lines_where, settings_of};
@@ -93,7 +93,8 @@ fn read_and_prompt<R, G, P: Predict + Copy, B: BufRead, S: EndFiles, W: Write>(
     let settings = settings_with(own, harts);
     let file = inputs.program?;
     let image = image_of(file, ram, context.alloc)?;
-    let names = names_where(step.names, file, context.alloc)?;
+    let wants_names = step_wants_names(step);
+    let names = names_where(wants_names, file, context.alloc)?;
     let wants_lines = step.lines.is_some();
     let lines = match lines_where(wants_lines, inputs.lines, &image, context.alloc) {
         Ok(lines) => lines,
@@ -124,14 +125,14 @@ fn prompt_beside<R, G, P: Predict + Copy, B: BufRead, S: EndFiles, W: Write>(
     requires finished { S.is_finished context.old.files ≡ true }
     ensures refused { IfErr result (IsStepRefusal settings.now []) }
     ensures ended { IfOk result (PromptComesTo P.predicts context.old.predict settings.now image.now
-        (B.remaining reader.old) (step_wants step.now) (marks_where step.now.names (table_of names.now)
-        (origins_in lines.now))
+        (B.remaining reader.old) (step_wants step.now (table_of names.now))
+        (marks_where step.now.names (table_of names.now) (origins_in lines.now))
         (IsTraceWritten S.written S.has_failed context.old.files context.new.files (is_some step.now.trace))
         (W.contents context.old.out) (W.contents context.new.out)) }
     ensures finished { OnOk result (S.is_finished context.new.files ≡ true) }
     ensures unwanted { is_some step.now.trace ≡ false → context.new.files ≡ context.old.files }
 {
     let labels = &labels_where(step.names, names, lines);
-    let wanted = Wanted::of_step(step);
+    let wanted = Wanted::of_step(step, names);
     perform_prompt(context, image, settings, step.why, wanted, labels, reader)
 }

@@ -1,4 +1,5 @@
 pub mod OfAccount
+mod OfCoreStory
 pub mod OfAnswer
 pub mod OfStep
 pub mod OfPrompt

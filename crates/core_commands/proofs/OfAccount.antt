@@ -14,8 +14,9 @@ use Rattle.address_labels.specs.Labels.{Marks}
 use Rattle.report_lines.specs.Lines.{records_text, status_number}
 use Rattle.reports.specs.Report.{is_load_record, looks_line}
 use Rattle.text_fields.proofs.Appending.{appends_more}
-use Rattle.core_commands.specs.declared.wanted.Wanted.{Wanted}
+use Rattle.core_commands.specs.Wanted.{Wants}
 use Rattle.core_commands.specs.Account.{AreTables, IsReported, looks_of, statuses_of, retired_of, body_text, body_of}
+use Rattle.core_commands.specs.Account.{story_of}
 use Rattle.core_commands.specs.Account.{counts_in, idle_of}
 
 -- A call that gave no error has done what it does where it gives none.
@@ -40,7 +41,7 @@ looked_is true core n rs is_looks is_records =
 looked_is false core n rs is_looks is_records = refl
 
 -- An account that is this core's, and how its harts stand.
-module _ (core : CoreView) (wanted : Wanted) (marks : Marks) (rs : List Record) (events lent : ℕ)
+module _ (core : CoreView) (wanted : Wants) (marks : Marks) (rs : List Record) (events lent : ℕ)
     (statuses : List Status)
     (put : List ℕ) (counts : Option Counts) (idle : List ℕ) (is_records : rs ≡ retired_of core)
     (is_events : events ≡ length core.past)
@@ -52,33 +53,35 @@ module _ (core : CoreView) (wanted : Wanted) (marks : Marks) (rs : List Record) 
   same_text ends = rw (is_records, is_events, is_lent, is_statuses, is_put, are_counts) refl
 
   -- Its tables were printed, and then its report.
-  pub reported : (old mid behind new : Option (List ℕ)) (tables bytes looked ends : List ℕ)
-      (stand : List Status) (exit_status : ℕ) → AreTables wanted.tables tables
+  pub reported : (first_old old mid behind new : Option (List ℕ)) (tables bytes looked ends : List ℕ)
+      (stand : List Status) (exit_status : ℕ) → Appends first_old old (story_of wanted.story marks core)
+      → AreTables wanted.tables tables
       → AreTables (is_some wanted.ends) ends → bytes ≡ tables → Appends old mid bytes
       → looked ≡ looks_of wanted.looks core → Appends mid behind looked
       → Appends behind new
       (records_text wanted.records marks rs ++ body_text wanted.json events rs lent statuses put counts idle ends)
       → stand ≡ statuses → exit_status ≡ status_number stand
-      → IsReported core idle wanted marks old new exit_status
-  reported old mid behind new tables bytes looked ends stand exit_status are are_ends same first is_looked second next
-      is_stand harts = record {
+      → IsReported core idle wanted marks first_old new exit_status
+  reported first_old old mid behind new tables bytes looked ends stand exit_status told are are_ends same first
+      is_looked second next is_stand harts = record {
         printed = (
-          tables ++ (looked
+          story_of wanted.story marks core ++ (tables ++ (looked
               ++ (records_text wanted.records marks rs ++ body_text wanted.json events rs lent statuses put counts
-              idle ends)),
+              idle ends))),
           record {
             tables = tables;
             are_tables = are;
             ends = ends;
             are_ends = are_ends;
-            whole = ap (λ t. tables ++ (looked ++ t)) (same_text ends)
-                ∙ ap (λ l. tables ++ (l
+            whole = ap (λ t. story_of wanted.story marks core ++ (tables ++ (looked ++ t))) (same_text ends)
+                ∙ ap (λ l. story_of wanted.story marks core ++ (tables ++ (l
                 ++ (records_text wanted.records marks
-                (retired_of core) ++ body_of wanted.json wanted.counts core idle ends)))
+                (retired_of core) ++ body_of wanted.json wanted.counts core idle ends))))
                 is_looked;
           },
-          appends_more old mid new _ _ (subst (Appends old mid) same first)
-              (appends_more mid behind new _ _ second next),
+          appends_more first_old old new _ _ told
+              (appends_more old mid new _ _ (subst (Appends old mid) same first)
+              (appends_more mid behind new _ _ second next)),
         );
         harts = harts ∙ ap status_number (is_stand ∙ is_statuses);
       }

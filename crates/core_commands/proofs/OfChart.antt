@@ -88,6 +88,7 @@ module _ (settings : Settings) (image : ProgramImage) (trace : List ℕ) (chart 
   drawing_refusal (refused.NoWord bytes) is = absurd (neither is)
   drawing_refusal (refused.NoOutcome number) is = absurd (neither is)
   drawing_refusal refused.NotStuck is = absurd (neither is)
+  drawing_refusal refused.LongStory is = absurd (neither is)
   drawing_refusal refused.NoAnswer is = absurd (neither is)
   drawing_refusal (refused.Litmus place fault) is = absurd (neither is)
   drawing_refusal refused.NothingToDraw is = absurd (neither is)

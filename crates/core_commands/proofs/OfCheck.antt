@@ -11,7 +11,7 @@ use Rattle.sim_inputs.specs.declared.settings.Settings.{Settings}
 use Rattle.command_parts.specs.declared.refused.Refused.{Refused}
 use Rattle.command_parts.specs.declared.refused.Refused.TheVariants.{Memory, Output}
 use Rattle.address_labels.specs.Labels.{Marks}
-use Rattle.core_commands.specs.{Account.IsReported, declared.wanted.Wanted.Wanted}
+use Rattle.core_commands.specs.{Account.IsReported, Wanted.Wants}
 use Rattle.core_commands.specs.Check.{IsCheckRefusal, IsTraceOf, setup_by}
 use Rattle.core_commands.specs.Check.{CheckComesTo}
 use Rattle.core_commands.specs.Told.{IsOfTrace}
@@ -53,7 +53,7 @@ pub report_untold : (reason : Refused) → (reason ≡ Memory) ⊎ (reason ≡ O
 report_untold reason (inl memory) of = subst IsOfTrace memory of
 report_untold reason (inr output) of = subst IsOfTrace output of
 
-pub comes_to : (settings : Settings) (image : ProgramImage) (trace : List ℕ) (wanted : Wanted) (marks : Marks)
+pub comes_to : (settings : Settings) (image : ProgramImage) (trace : List ℕ) (wanted : Wants) (marks : Marks)
     (read : TraceContent) (core : CoreView) (old new : Option (List ℕ)) (exit_status : ℕ)
     → IsTraceOf trace read → core ≡ following settings image read
     → is_accepted core.setup core.limit ≡ true → Shown core → IsReported core [] wanted marks old new exit_status

@@ -10,7 +10,7 @@ use Rattle.prompts.specs.{declared.prompting.Ended.Ended, Prompted.IsPrompted}
 use Rattle.sim_inputs.specs.{declared.settings.Settings.Settings}
 use Rattle.text_fields.proofs.Appending.{appends_more}
 use Rattle.address_labels.specs.Labels.{Marks}
-use Rattle.core_commands.specs.{declared.wanted.Wanted.Wanted}
+use Rattle.core_commands.specs.{Wanted.Wants}
 use Rattle.core_commands.specs.{Account.IsReported, Account.idle_of}
 use Rattle.command_parts.specs.{Refused.AreAccepted, Refused.AreRefused}
 use Rattle.core_commands.specs.{Step.IsAsking, Prompt.PromptComesTo}
@@ -30,7 +30,7 @@ pub refused_all : (settings : Settings) (image : ProgramImage)
 refused_all settings image is = λ other. is
 
 module _ {P : Type 0} (predicts : P → ℕ → ℕ → ℕ → ℕ → P → Type 0) (before : P) (settings : Settings)
-    (input : Option (List ℕ)) (wanted : Wanted) (marks : Marks) (Traced : CoreView → Type 0) where
+    (input : Option (List ℕ)) (wanted : Wants) (marks : Marks) (Traced : CoreView → Type 0) where
   -- The lines were answered, and then the account was printed.
   pub prompt_comes_to : (image : ProgramImage) (ended : Ended) (core : CoreView) (idle : List ℕ)
       (old mid new : Option (List ℕ))

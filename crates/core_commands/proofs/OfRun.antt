@@ -14,7 +14,7 @@ use Rattle.command_parts.specs.declared.refused.Refused.{Refused}
 use Rattle.command_parts.specs.declared.refused.Refused.TheVariants.{Image, Memory, Output}
 use Rattle.command_parts.specs.Refused.{AreAccepted}
 use Rattle.address_labels.specs.Labels.{Marks}
-use Rattle.core_commands.specs.{Account.IsReported, Account.idle_of, declared.wanted.Wanted.Wanted}
+use Rattle.core_commands.specs.{Account.IsReported, Account.idle_of, Wanted.Wants}
 use Rattle.core_commands.specs.Run.{IsRunRefusal, RunComesTo, LackARole, run_refusal}
 
 -- What a run's answer says of the sizes and of the roles.
@@ -93,7 +93,7 @@ report_refusal settings reason accepted manned (inr same) =
 pub never_image : (settings : Settings) (number : ℕ) → IsRunRefusal settings (Image number) → ⊥
 never_image settings number is = is
 
-pub comes_to : (settings : Settings) (image : ProgramImage) (wanted : Wanted) (marks : Marks) (core : CoreView)
+pub comes_to : (settings : Settings) (image : ProgramImage) (wanted : Wants) (marks : Marks) (core : CoreView)
     (idle : List ℕ)
     (Traced : CoreView → Type 0) (old new : Option (List ℕ)) (exit_status : ℕ)
     → AreAccepted settings → (LackARole settings → ⊥)

@@ -16,7 +16,7 @@ use Rattle.command_parts.specs.declared.refused.Refused.TheVariants.{Output}
 use Rattle.command_parts.specs.Refused.{AreAccepted}
 use Rattle.address_labels.specs.Labels.{Marks, no_marks}
 use Rattle.smt_core.specs.declared.finished.Finished.{Finished}
-use Rattle.core_commands.specs.{Account.IsReported, Account.idle_of, declared.wanted.Wanted.Wanted}
+use Rattle.core_commands.specs.{Account.IsReported, Account.idle_of, Wanted.Wants}
 use Rattle.core_commands.specs.Step.{IsStepRefusal, IsAsking, StepComesTo, ArePrinted, AreMarked, IsMarked}
 
 -- Behind inputs that are accepted, the report is refused for memory or by the output.
@@ -34,7 +34,7 @@ never_image settings script number is = is
 
 -- The asks were printed, and then the account.
 pub comes_to : (settings : Settings) (image : ProgramImage) (script : List ℕ)
-    (with_why : Bool) (wanted : Wanted) (marks : Marks) (core : CoreView) (idle : List ℕ) (Traced : CoreView → Type 0)
+    (with_why : Bool) (wanted : Wants) (marks : Marks) (core : CoreView) (idle : List ℕ) (Traced : CoreView → Type 0)
     (old mid new : Option (List ℕ)) (exit_status : ℕ)
     → AreAccepted settings → IsAsking script
     → core.setup ≡ setup_of image settings.config → core.limit ≡ settings.limit → Shown core

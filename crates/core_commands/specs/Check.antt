@@ -15,7 +15,7 @@ use Rattle.report_lines.specs.Lines.{status_number}
 use Rattle.command_parts.specs.{declared.refused.Refused.Refused}
 use Rattle.command_parts.specs.declared.refused.Refused.TheVariants as refused
 use Rattle.address_labels.specs.Labels.{Marks}
-use Rattle.core_commands.specs.declared.wanted.Wanted.{Wanted}
+use Rattle.core_commands.specs.Wanted.{Wants}
 use Rattle.core_commands.specs.Account.{IsAccount, statuses_of}
 
 -- The text is this trace, with each of its events in range.
@@ -78,7 +78,7 @@ IsHistoryRefusal setup events _ = ⊥
 -- its history is legal. What was printed is what is printed of this core, which nobody has asked; the
 -- exit status is that of its harts.
 pub record CheckComesTo (settings : Settings) (image : ProgramImage) (trace : List ℕ)
-    (wanted : Wanted) (marks : Marks) (old new : Option (List ℕ)) (exit_status : ℕ) : Type 0 where
+    (wanted : Wants) (marks : Marks) (old new : Option (List ℕ)) (exit_status : ℕ) : Type 0 where
   pub read : TraceContent
   pub is_trace : IsTraceOf trace read
   pub core : CoreView

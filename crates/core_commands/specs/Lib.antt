@@ -4,6 +4,7 @@ pub mod Step
 pub mod NamedAsks
 pub mod Prompt
 pub mod Run
+pub mod Watching
 pub mod Stress
 pub mod Check
 pub mod Script

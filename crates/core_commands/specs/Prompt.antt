@@ -8,12 +8,12 @@ use Rattle.prompts.specs.{declared.prompting.Ended.Ended, Prompted.IsPrompted}
 use Rattle.sim_inputs.specs.declared.settings.Settings.{Settings}
 use Rattle.report_lines.specs.Lines.{status_number}
 use Rattle.address_labels.specs.Labels.{Marks}
-use Rattle.core_commands.specs.declared.wanted.Wanted.{Wanted}
+use Rattle.core_commands.specs.Wanted.{Wants}
 use Rattle.command_parts.specs.{Refused.AreAccepted}
 use Rattle.core_commands.specs.Account.{IsAccount, idle_of, statuses_of}
 
 -- What the lines were answered, and then what is printed of a core.
-pub record AreAnswersAndAccount (core : CoreView) (idle : List ℕ) (wanted : Wanted) (marks : Marks)
+pub record AreAnswersAndAccount (core : CoreView) (idle : List ℕ) (wanted : Wants) (marks : Marks)
     (text : List ℕ) : Type 0 where
   pub answers : List ℕ
   pub account : List ℕ
@@ -26,7 +26,7 @@ pub record AreAnswersAndAccount (core : CoreView) (idle : List ℕ) (wanted : Wa
 -- (`Traced`). What was printed are the
 -- answers, and then what is printed of the core; the exit status is that of its harts.
 pub record PromptComesTo {P : Type 0} (predicts : P → ℕ → ℕ → ℕ → ℕ → P → Type 0) (before : P)
-    (settings : Settings) (image : ProgramImage) (input : Option (List ℕ)) (wanted : Wanted) (marks : Marks)
+    (settings : Settings) (image : ProgramImage) (input : Option (List ℕ)) (wanted : Wants) (marks : Marks)
     (Traced : CoreView → Type 0) (old new : Option (List ℕ)) (exit_status : ℕ) : Type 0 where
   pub accepted : AreAccepted settings
   pub ended : Ended

@@ -12,7 +12,7 @@ use Rattle.command_parts.specs.declared.refused.Refused.{Refused}
 use Rattle.command_parts.specs.declared.refused.Refused.TheVariants.{Config, Memory, Thread, Output}
 use Rattle.command_parts.specs.Refused.{AreAccepted, AreRefused}
 use Rattle.address_labels.specs.Labels.{Marks}
-use Rattle.core_commands.specs.declared.wanted.Wanted.{Wanted}
+use Rattle.core_commands.specs.Wanted.{Wants}
 use Rattle.core_commands.specs.Account.{IsAccount, idle_of, statuses_of}
 
 -- No actor has some role.
@@ -40,7 +40,7 @@ IsRunRefusal settings _ = ⊥
 -- settings, one of those that may be shown. Its trace is written where that is wanted (`Traced`).
 -- What was printed is what is printed of this core, with how many asks of each actor its pass has counted
 -- as idle; the exit status is that of its harts.
-pub record RunComesTo (settings : Settings) (image : ProgramImage) (wanted : Wanted) (marks : Marks)
+pub record RunComesTo (settings : Settings) (image : ProgramImage) (wanted : Wants) (marks : Marks)
     (Traced : CoreView → Type 0) (old new : Option (List ℕ)) (exit_status : ℕ) : Type 0 where
   pub accepted : AreAccepted settings
   pub manned : LackARole settings → ⊥

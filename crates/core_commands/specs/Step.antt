@@ -13,7 +13,7 @@ use Rattle.command_parts.specs.Refused.{AreAccepted, AreRefused}
 use Rattle.report_lines.specs.Lines.{status_number}
 use Rattle.address_labels.specs.Labels.{Marks}
 use Rattle.core_commands.specs.NamedAsks.{IsNamedText}
-use Rattle.core_commands.specs.declared.wanted.Wanted.{Wanted}
+use Rattle.core_commands.specs.Wanted.{Wants}
 use Rattle.core_commands.specs.Account.{IsAccount, idle_of, statuses_of}
 
 -- The text is a script.
@@ -56,7 +56,7 @@ AreMarked with_why marks script core idle marked =
 
 -- The lines of all that a script has asked of a core, and then what is printed of it.
 pub record AreAsksAndAccount (core : CoreView) (script : List ℕ)
-    (with_why : Bool) (wanted : Wanted) (marks : Marks) (text : List ℕ) : Type 0 where
+    (with_why : Bool) (wanted : Wants) (marks : Marks) (text : List ℕ) : Type 0 where
   pub asks : List ℕ
   pub account : List ℕ
   pub idle : List ℕ
@@ -69,7 +69,7 @@ pub record AreAsksAndAccount (core : CoreView) (script : List ℕ)
 -- answers to the script's asks, or what explains them, and then what is printed of it; the exit
 -- status is that of its harts.
 pub record StepComesTo (settings : Settings) (image : ProgramImage) (script : List ℕ)
-    (with_why : Bool) (wanted : Wanted) (marks : Marks) (Traced : CoreView → Type 0) (old new : Option (List ℕ))
+    (with_why : Bool) (wanted : Wants) (marks : Marks) (Traced : CoreView → Type 0) (old new : Option (List ℕ))
     (exit_status : ℕ) : Type 0 where
   pub accepted : AreAccepted settings
   pub is_asking : IsAsking script

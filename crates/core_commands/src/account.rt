@@ -1,4 +1,4 @@
-//! What is reported of a core: its trace, its tables, how many of its loads looked again, its
+//! What is reported of a core: its trace, its story, its tables, how many of its loads looked again, its
 //! records and its report, with the numbers of its history, how many asks of each actor were answered
 //! idle, and why its harts stand where they do. Each command that has a core at its end reports it so.
 
@@ -12,9 +12,11 @@ ghost use Rattle.reports.specs.Report.{is_load_record, looks_line};
 ghost use Rattle.command_parts.specs.declared.refused.Refused.TheVariants.{Memory, Output};
 ghost use Rattle.core_commands.specs.Account.{AreTables, IsReported, IsTraceWritten, counts_in};
 ghost use Rattle.core_commands.specs.Account.{body_text, numbers_text, idle_of};
+ghost use Rattle.core_commands.specs.Wanted.{wants_of};
 ghost use Rattle.reports.specs.CountLines.{count_lines};
 ghost use Rattle.reports.specs.Counts.{idle_lines};
 
+use crate::core_story::tell_story;
 use crate::wanted::Wanted;
 use address_labels::Labels;
 use command_parts::Refused;
@@ -42,7 +44,7 @@ use stress_runs::{EndFiles, put_trace_file};
 pub(crate) fn write_account<S: EndFiles, W: Write>(
     core: &Core,
     idle: &[u64],
-    wanted: Wanted,
+    wanted: Wanted<'_>,
     labels: &Labels<'_>,
     trace: &mut S,
     out: &mut W,
@@ -52,10 +54,11 @@ pub(crate) fn write_account<S: EndFiles, W: Write>(
     requires finished { S.is_finished trace.old ≡ true }
     ensures refused { IfErr result (λ reason. (reason ≡ Memory) ⊎ (reason ≡ Output)) }
     ensures traced { OnOk result (IsTraceWritten S.written S.has_failed trace.old trace.new
-        wanted.trace core.now) }
+        wanted.entry.trace core.now) }
     ensures reported { IfOk result
-        (IsReported core.now idle.now wanted (marks_of labels.now) (W.contents out.old) (W.contents out.new)) }
-    ensures unwanted { wanted.trace ≡ false → trace.new ≡ trace.old }
+        (IsReported core.now idle.now (wants_of wanted.entry) (marks_of labels.now)
+        (W.contents out.old) (W.contents out.new)) }
+    ensures unwanted { wanted.entry.trace ≡ false → trace.new ≡ trace.old }
     ensures unbroken { OnOk result (S.has_failed trace.new ≡ false) }
     ensures finished { OnOk result (S.is_finished trace.new ≡ true) }
     ensures unreported { S.has_failed trace.new ≡ true
@@ -91,17 +94,18 @@ fn write_trace<S: EndFiles>(core: &Core, wanted: bool, sink: &mut S) -> Result<(
 pub(crate) fn report_core<W: Write>(
     core: &Core,
     idle: &[u64],
-    wanted: Wanted,
+    wanted: Wanted<'_>,
     labels: &Labels<'_>,
     out: &mut W,
     alloc: Global,
 ) -> Result<u8, Refused>
     ensures refused { IfErr result (λ reason. (reason ≡ Memory) ⊎ (reason ≡ Output)) }
     ensures reported { IfOk result
-        (IsReported core.now idle.now wanted (marks_of labels.now) (W.contents out.old) (W.contents out.new)) }
+        (IsReported core.now idle.now (wants_of wanted.entry) (marks_of labels.now)
+        (W.contents out.old) (W.contents out.new)) }
 {
     match made_of(core, wanted, alloc) {
-        Ok(made) => write_made(core, idle, wanted, labels, &made, out),
+        Ok(made) => write_made(core, idle, wanted, labels, &made, out, alloc),
         Err(AllocError) => Err(Refused::Memory),
     }
 }
@@ -115,10 +119,10 @@ struct Made {
 }
 
 /// What is wanted of a core that takes memory to make.
-fn made_of(core: &Core, wanted: Wanted, alloc: Global) -> Result<Made, AllocError>
-    ensures counts { IfOk result (λ made. made.counts ≡ counts_in wanted.counts core.now) }
-    ensures tables { IfOk result (λ made. AreTables wanted.tables made.tables.items) }
-    ensures ends { IfOk result (λ made. AreTables (is_some wanted.ends) made.ends.items) }
+fn made_of(core: &Core, wanted: Wanted<'_>, alloc: Global) -> Result<Made, AllocError>
+    ensures counts { IfOk result (λ made. made.counts ≡ counts_in wanted.entry.counts core.now) }
+    ensures tables { IfOk result (λ made. AreTables wanted.entry.tables made.tables.items) }
+    ensures ends { IfOk result (λ made. AreTables (is_some wanted.entry.ends) made.ends.items) }
 {
     let counts = counts_in(core, wanted.counts, alloc)?;
     let tables = table_text(core, wanted.tables, alloc)?;
@@ -130,22 +134,26 @@ fn made_of(core: &Core, wanted: Wanted, alloc: Global) -> Result<Made, AllocErro
     })
 }
 
-/// Writes what was made of a core and is wanted of it, and its report. Answers how the harts stand.
+/// Tells the story of a core where it is wanted, and then writes what was made of it and is wanted of it, and its
+/// report. Answers how the harts stand.
 fn write_made<W: Write>(
     core: &Core,
     idle: &[u64],
-    wanted: Wanted,
+    wanted: Wanted<'_>,
     labels: &Labels<'_>,
     made: &Made,
     out: &mut W,
+    alloc: Global,
 ) -> Result<u8, Refused>
     requires counts { made.now.counts ≡ counts_in wanted.counts core.now }
     requires tables { AreTables wanted.tables made.now.tables.items }
     requires ends { AreTables (is_some wanted.ends) made.now.ends.items }
-    ensures refused { IfErr result (λ reason. reason ≡ Output) }
+    ensures refused { IfErr result (λ reason. (reason ≡ Memory) ⊎ (reason ≡ Output)) }
     ensures reported { IfOk result
-        (IsReported core.now idle.now wanted (marks_of labels.now) (W.contents out.old) (W.contents out.new)) }
+        (IsReported core.now idle.now (wants_of wanted.entry) (marks_of labels.now)
+        (W.contents out.old) (W.contents out.new)) }
 {
+    tell_story(core, &wanted.story, labels, out, alloc)?;
     if out.write_all(made.tables.as_slice()).is_err() {
         return Err(Refused::Output);
     }
@@ -161,14 +169,14 @@ fn write_made<W: Write>(
 fn write_report<W: Write>(
     account: &Account<'_>,
     idle: &[u64],
-    wanted: Wanted,
+    wanted: Wanted<'_>,
     labels: &Labels<'_>,
     made: &Made,
     out: &mut W,
 ) -> io::Result<()>
     ensures { OnOk result (Appends (W.contents out.old) (W.contents out.new)
-        (records_text wanted.records (marks_of labels.now) account.now.records.now
-        ++ body_text wanted.json account.now.events account.now.records.now account.now.lent
+        (records_text wanted.entry.records (marks_of labels.now) account.now.records.now
+        ++ body_text wanted.entry.json account.now.events account.now.records.now account.now.lent
         account.now.statuses.items account.now.output.now made.now.counts idle.now made.now.ends.items)) }
 {
     report_records(wanted.records, account.records, labels, out)?;

@@ -11,6 +11,7 @@ ghost use Rattle.core_commands.specs.Check.{IsCheckRefusal, CheckComesTo, IsTrac
 ghost use Rattle.core_commands.specs.Check.{IsTraceRefusal, IsHistoryRefusal, setup_by};
 ghost use Rattle.address_labels.specs.Labels.{marks_of};
 ghost use Rattle.core_commands.specs.Told.{IsCheckRefusalWith, IsJudged, IsToldOn};
+ghost use Rattle.core_commands.specs.Wanted.{wants_of};
 
 use crate::account::report_core;
 use crate::wanted::Wanted;
@@ -38,16 +39,17 @@ pub fn perform_check<W: Write>(
     image: &Image,
     settings: &Settings,
     trace: &[u8],
-    wanted: Wanted,
+    wanted: Wanted<'_>,
     labels: &Labels<'_>,
     out: &mut W,
     alloc: Global,
 ) -> Result<u8, Refused>
     ensures refused { IfErr result
-        (IsCheckRefusalWith (is_some wanted.ends) settings.now image.now trace.now) }
-    ensures told { IfErr result (IsToldOn (is_some wanted.ends) settings.now image.now trace.now
+        (IsCheckRefusalWith (is_some wanted.entry.ends) settings.now image.now trace.now) }
+    ensures told { IfErr result (IsToldOn (is_some wanted.entry.ends) settings.now image.now trace.now
         (W.contents out.old) (W.contents out.new)) }
-    ensures ended { IfOk result (CheckComesTo settings.now image.now trace.now wanted (marks_of labels.now)
+    ensures ended { IfOk result (CheckComesTo settings.now image.now trace.now (wants_of wanted.entry)
+        (marks_of labels.now)
         (W.contents out.old) (W.contents out.new)) }
 {
     let checked = match judge(image, settings, trace, alloc) {

@@ -1,15 +1,16 @@
 //! The commands over cores and their histories.
 //!
-//! Read in this order: `wanted` (what is wanted of a core), `account` (what is reported of one), then a module a
-//! command: `step`, `prompt` (the same of a script that is typed), `run`, `stress` (many runs), `check`, `script`,
-//! `chart` and `migrate`. What each command comes to, and when each of its refusals comes, stands in `specs` under
-//! the command's name.
+//! Read in this order: `wanted` (what is wanted of a core), `core_story` (the story of one), `account` (what is
+//! reported of one), then a module a command: `step`, `prompt` (the same of a script that is typed), `run`, `watching`
+//! (what is watched of many runs), `stress` (many runs), `check`, `script`, `chart` and `migrate`. What each command
+//! comes to, and when each of its refusals comes, stands in `specs` under the command's name.
 #![tactic(auto)]
 
 mod account;
 mod chart;
 mod chart_ends;
 mod check;
+mod core_story;
 mod judgement;
 mod migrate;
 mod named_asks;
@@ -19,6 +20,7 @@ mod script;
 mod step;
 mod stress;
 mod wanted;
+mod watching;
 mod why;
 
 pub use chart::perform_chart;
@@ -30,4 +32,4 @@ pub use run::{perform_run, run_bytes};
 pub use script::perform_script;
 pub use step::{perform_step, step_bytes};
 pub use stress::perform_stress;
-pub use wanted::Wanted;
+pub use wanted::{CoreStory, Wanted};

@@ -3,6 +3,7 @@
 ghost use Rattle.std.specs.Prelude.{◌≡◌, [], IfOk, IfErr, OnOk, true, false};
 ghost use Rattle.address_labels.specs.Labels.{marks_of};
 ghost use Rattle.core_commands.specs.Account.{IsTraceWritten};
+ghost use Rattle.core_commands.specs.Wanted.{wants_of};
 ghost use Rattle.core_commands.specs.Prompt.{PromptComesTo};
 ghost use Rattle.core_commands.specs.Step.{IsStepRefusal};
 
@@ -29,7 +30,7 @@ pub fn perform_prompt<R, G, P: Predict + Copy, B: BufRead, S: EndFiles, W: Write
     image: &Image,
     settings: &Settings,
     why: bool,
-    wanted: Wanted,
+    wanted: Wanted<'_>,
     labels: &Labels<'_>,
     reader: &mut B,
 ) -> Result<u8, Refused>
@@ -37,10 +38,10 @@ pub fn perform_prompt<R, G, P: Predict + Copy, B: BufRead, S: EndFiles, W: Write
     requires finished { S.is_finished context.old.files ≡ true }
     ensures refused { IfErr result (IsStepRefusal settings.now []) }
     ensures ended { IfOk result (PromptComesTo P.predicts context.old.predict settings.now image.now
-        (B.remaining reader.old) wanted (marks_of labels.now)
-        (IsTraceWritten S.written S.has_failed context.old.files context.new.files wanted.trace)
+        (B.remaining reader.old) (wants_of wanted.entry) (marks_of labels.now)
+        (IsTraceWritten S.written S.has_failed context.old.files context.new.files wanted.entry.trace)
         (W.contents context.old.out) (W.contents context.new.out)) }
-    ensures unwanted { wanted.trace ≡ false → context.new.files ≡ context.old.files }
+    ensures unwanted { wanted.entry.trace ≡ false → context.new.files ≡ context.old.files }
     ensures unbroken { OnOk result (S.has_failed context.new.files ≡ false) }
     ensures finished { OnOk result (S.is_finished context.new.files ≡ true) }
 {

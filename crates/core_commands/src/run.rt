@@ -9,6 +9,7 @@ ghost use Rattle.command_parts.specs.Refused.{PassesAll, AreAccepted, BehindImag
 ghost use Rattle.address_labels.specs.Labels.{marks_of};
 ghost use Rattle.core_commands.specs.Run.{IsRunRefusal, RunComesTo, LackARole, run_refusal};
 ghost use Rattle.core_commands.specs.Account.{IsTraceWritten};
+ghost use Rattle.core_commands.specs.Wanted.{wants_of};
 
 use crate::account::{idle_of, write_account};
 use crate::wanted::Wanted;
@@ -110,16 +111,16 @@ pub fn perform_run<
     context: &mut Context<'_, R, G, P, S, W>,
     image: &Image,
     settings: &Settings,
-    wanted: Wanted,
+    wanted: Wanted<'_>,
     labels: &Labels<'_>,
 ) -> Result<u8, Refused>
     requires works { S.has_failed context.old.files ≡ false }
     requires finished { S.is_finished context.old.files ≡ true }
     ensures refused { IfErr result (IsRunRefusal settings.now) }
-    ensures ended { IfOk result (RunComesTo settings.now image.now wanted (marks_of labels.now)
-        (IsTraceWritten S.written S.has_failed context.old.files context.new.files wanted.trace)
+    ensures ended { IfOk result (RunComesTo settings.now image.now (wants_of wanted.entry) (marks_of labels.now)
+        (IsTraceWritten S.written S.has_failed context.old.files context.new.files wanted.entry.trace)
         (W.contents context.old.out) (W.contents context.new.out)) }
-    ensures unwanted { wanted.trace ≡ false → context.new.files ≡ context.old.files }
+    ensures unwanted { wanted.entry.trace ≡ false → context.new.files ≡ context.old.files }
     ensures unbroken { OnOk result (S.has_failed context.new.files ≡ false) }
     ensures finished { OnOk result (S.is_finished context.new.files ≡ true) }
     ensures unreported { S.has_failed context.new.files ≡ true

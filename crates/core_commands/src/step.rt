@@ -15,6 +15,7 @@ ghost use Rattle.core_commands.specs.Step.{IsStepRefusal, StepComesTo, IsAsking,
 ghost use Rattle.core_commands.specs.Step.{AreMarked, IsMarked};
 ghost use Rattle.address_labels.specs.Labels.{marks_of};
 ghost use Rattle.core_commands.specs.Account.{IsTraceWritten};
+ghost use Rattle.core_commands.specs.Wanted.{wants_of};
 
 use crate::account::{idle_of, write_account};
 use crate::named_asks::write_named;
@@ -239,16 +240,17 @@ pub fn perform_step<R, G, P: Predict + Copy, S: EndFiles, W: Write>(
     settings: &Settings,
     script: &[u8],
     why: bool,
-    wanted: Wanted,
+    wanted: Wanted<'_>,
     labels: &Labels<'_>,
 ) -> Result<u8, Refused>
     requires works { S.has_failed context.old.files ≡ false }
     requires finished { S.is_finished context.old.files ≡ true }
     ensures refused { IfErr result (IsStepRefusal settings.now script.now) }
-    ensures ended { IfOk result (StepComesTo settings.now image.now script.now why wanted (marks_of labels.now)
-        (IsTraceWritten S.written S.has_failed context.old.files context.new.files wanted.trace)
+    ensures ended { IfOk result (StepComesTo settings.now image.now script.now why (wants_of wanted.entry)
+        (marks_of labels.now)
+        (IsTraceWritten S.written S.has_failed context.old.files context.new.files wanted.entry.trace)
         (W.contents context.old.out) (W.contents context.new.out)) }
-    ensures unwanted { wanted.trace ≡ false → context.new.files ≡ context.old.files }
+    ensures unwanted { wanted.entry.trace ≡ false → context.new.files ≡ context.old.files }
     ensures unbroken { OnOk result (S.has_failed context.new.files ≡ false) }
     ensures finished { OnOk result (S.is_finished context.new.files ≡ true) }
     ensures unreported { S.has_failed context.new.files ≡ true → (core : CoreView) × (idle : List ℕ)

@@ -1,32 +1,47 @@
-//! The command `run --times`: so many runs of one image, and how often each end came.
+//! The command `run --times`: so many runs of one image, how often each end came, with what is watched of it, and what
+//! these ends answer to a question.
 
-ghost use Rattle.std.specs.Prelude.{◌≡◌, ◌≤◌, IfErr, IfOk, OnOk, List, true, false};
+ghost use Rattle.std.specs.Prelude.{◌≡◌, ◌≤◌, ◌⊎◌, IfErr, IfOk, OnOk, List, length, true, false, is_some};
+ghost use Rattle.std.specs.Io.KnownBytes.{Appends};
 ghost use Rattle.stress_runs.specs.declared.tally.Row.{Row};
 ghost use Rattle.stress_runs.specs.Ends.{end_of, next_number};
-ghost use Rattle.command_parts.specs.declared.refused.Refused.TheVariants.{Output};
+ghost use Rattle.command_parts.specs.declared.refused.Refused.TheVariants.{Memory, Output};
 ghost use Rattle.core_commands.specs.Run.{IsRunRefusal};
-ghost use Rattle.core_commands.specs.Stress.{StressComesTo, HasTallied, HasRunOnce, runs_of};
-ghost use Rattle.core_commands.specs.Stress.{AreEndsWritten, IsEndWritten};
+ghost use Rattle.symbols.specs.Tables.{table_of};
+ghost use Rattle.watched_outcomes.specs.declared.watch.Watch.{Watch as AnyWatch};
+ghost use Rattle.core_commands.specs.Watching.{IsAllThere};
+ghost use Rattle.core_commands.specs.Stress.{StressComesTo, HasTallied, HasRunOnce, IsStressRefusal, runs_of};
+ghost use Rattle.core_commands.specs.Stress.{AreEndsWritten, IsEndWritten, answer_told, stress_status, stress_text};
 
+use crate::core_story::kept_story;
 use crate::run::run_image;
+use crate::watching::{asking_of, see_watched};
 use actors::Gate;
 use command_parts::{Context, Refused};
 use elf_image::Image;
-use sim_inputs::Settings;
+use outcome_queries::{Question, WatchList, columns_of, watch_of};
+use plain_commands::status_of_answer;
+use sim_inputs::{RunCommand, Settings};
 use smt_core::{Core, Predict};
 use std::alloc::{AllocError, Global};
 use std::io::Write;
 use std::sync::Wait;
 use std::thread::Threads;
-use stress_runs::{EndFiles, Tally, keep_end, report_tally};
+use stress_runs::{EndFiles, Tally, keep_end, report_answer, report_tally, sampled_answer};
+use symbols::Symbols;
+use watched_outcomes::Watch;
 
 /// Makes so many runs of an image (one, where that is 0), each with a thread for each actor, counts
-/// how often each end came, and writes the table of the ends. Where they are kept, the trace and the
-/// order of the run with which an end came first are put into `files`, before the next run. Answers
-/// the exit status of the worst run.
+/// how often each end came, and writes the table of the ends, and behind it what they answer to the command's
+/// question. What the list and the question of the command ask for tells ends apart too, as it stands when a run
+/// has ended. Where ends are kept, the trace, the order and the story of the run with which an end came first are
+/// put into `files`, before the next run. Answers the exit status: of a question 0 where it is so, 1 where it isn't,
+/// and 3 where these ends don't tell; without a question that of the worst run.
 ///
-/// A run is refused as that of `perform_run` is, and `Output` is answered where `files` or `out`
-/// took no more; then there is no table, and no other run is made.
+/// Refused are, in this order, a condition and a list that are misspelled, more than can be watched, a hart that
+/// isn't there (of the condition first), and a place in memory that isn't; then no run is made. A run is refused as
+/// that of `perform_run` is, and `Output` is answered where `files` or `out` took no more; then there is no table,
+/// and no other run is made.
 #[inline(never)]
 pub fn perform_stress<
     G: Gate + Sync,
@@ -38,26 +53,137 @@ pub fn perform_stress<
     context: &mut Context<'_, R, G, P, F, W>,
     image: &Image,
     settings: &Settings,
+    names: &Symbols<'_>,
+    command: &RunCommand<'_>,
     times: u32,
-    keep: bool,
 ) -> Result<u8, Refused>
     requires works { F.has_failed context.old.files ≡ false }
     requires finished { F.is_finished context.old.files ≡ true }
-    ensures refused { IfErr result (IsRunRefusal settings.now) }
-    ensures ended { IfOk result (StressComesTo settings.now image.now times
-        (AreEndsWritten F.begins F.written F.has_failed context.old.files context.new.files keep)
-        (W.contents context.old.out) (W.contents context.new.out)) }
-    ensures unwanted { keep ≡ false → context.new.files ≡ context.old.files }
+    ensures refused { IfErr result
+        (IsStressRefusal settings.now image.now (table_of names.now) command.now) }
+    ensures ended { IfOk result (StressComesTo settings.now image.now (table_of names.now) command.now times
+        (AreEndsWritten F.begins F.written F.has_failed context.old.files context.new.files (is_some command.now.keep)
+        (table_of names.now)) (W.contents context.old.out) (W.contents context.new.out)) }
+    ensures unwanted { is_some command.now.keep ≡ false → context.new.files ≡ context.old.files }
     ensures unbroken { OnOk result (F.has_failed context.new.files ≡ false) }
     ensures finished { OnOk result (F.is_finished context.new.files ≡ true) }
     ensures unreported { F.has_failed context.new.files ≡ true
         → W.contents context.new.out ≡ W.contents context.old.out }
 {
+    // Handed on as it is: a `?` would leave the prover to find what the refusal becomes.
+    let asking = match asking_of(command, names, settings.config.harts, context.alloc) {
+        Ok(asking) => asking,
+        Err(refused) => return Err(refused),
+    };
+    let watch = watch_of(asking.all.as_slice());
+    match see_watched(&watch, image, settings.config.harts, context.alloc) {
+        Ok(()) => {}
+        Err(refused) => return Err(refused),
+    }
     let count = runs_of(times);
+    let tally = match tally_runs(
+        context,
+        image,
+        settings,
+        names,
+        &watch,
+        count,
+        command.keep.is_some(),
+    ) {
+        Ok(tally) => tally,
+        Err(refused) => return Err(refused),
+    };
+    report_runs(
+        count,
+        &tally,
+        &asking.all,
+        &watch,
+        &asking.question,
+        &mut context.out,
+    )
+}
+
+/// Writes the table of so many runs, with all that is watched of their ends, and what these answer to the question.
+/// Answers the exit status.
+#[inline(never)]
+fn report_runs<W: Write>(
+    count: u32,
+    tally: &Tally,
+    all: &WatchList<'_>,
+    watch: &Watch,
+    question: &Option<Question<'_>>,
+    out: &mut W,
+) -> Result<u8, Refused>
+    requires { length all.now.items ≤ 64 }
+    ensures printed { OnOk result (Appends (W.contents out.old) (W.contents out.new)
+        (stress_text all.now.items watch.now question.now count tally.now)) }
+    ensures status { IfOk result (λ status. status ≡ stress_status watch.now question.now tally.now) }
+    ensures refused { IfErr result (λ why. why ≡ Output) }
+{
+    let columns = columns_of(all.as_slice());
+    match report_tally(count, tally, &columns, out) {
+        Ok(()) => report_asked(tally, watch, question, out),
+        Err(_) => Err(Refused::Output),
+    }
+}
+
+/// Writes what the ends answer to the question, where one is asked. Answers the exit status.
+fn report_asked<W: Write>(
+    tally: &Tally,
+    watch: &Watch,
+    question: &Option<Question<'_>>,
+    out: &mut W,
+) -> Result<u8, Refused>
+    ensures printed { OnOk result (Appends (W.contents out.old) (W.contents out.new)
+        (answer_told watch.now question.now tally.now.rows)) }
+    ensures status { IfOk result (λ status. status ≡ stress_status watch.now question.now tally.now) }
+    ensures refused { IfErr result (λ why. why ≡ Output) }
+{
+    let Some(question) = question else {
+        return Ok(tally.status());
+    };
+    let answer = sampled_answer(question, watch, tally.rows());
+    match report_answer(question, answer, watch, tally.rows(), out) {
+        Ok(()) => Ok(status_of_answer(answer)),
+        Err(_) => Err(Refused::Output),
+    }
+}
+
+/// Makes so many runs, which the gate is shown, and counts their ends.
+fn tally_runs<
+    G: Gate + Sync,
+    P: Predict + Copy + Send,
+    F: EndFiles,
+    W: Write,
+    R: Threads + Wait + Sync,
+>(
+    context: &mut Context<'_, R, G, P, F, W>,
+    image: &Image,
+    settings: &Settings,
+    names: &Symbols<'_>,
+    watch: &Watch,
+    count: u32,
+    keep: bool,
+) -> Result<Tally, Refused>
+    requires some { 1 ≤ count }
+    requires there { IsAllThere image.now settings.now.config.harts watch.now }
+    requires works { F.has_failed context.old.files ≡ false }
+    requires finished { F.is_finished context.old.files ≡ true }
+    ensures refused { IfErr result (IsRunRefusal settings.now) }
+    ensures tallied { IfOk result (HasTallied settings.now image.now watch.now
+        (AreEndsWritten F.begins F.written F.has_failed context.old.files context.new.files keep (table_of names.now)
+        watch.now) count) }
+    ensures unwanted { keep ≡ false → context.new.files ≡ context.old.files }
+    ensures unbroken { OnOk result (F.has_failed context.new.files ≡ false) }
+    ensures finished { OnOk result (F.is_finished context.new.files ≡ true) }
+    ensures unprinted { context.new.out ≡ context.old.out }
+{
     let runs = Runs {
         rt: context.rt,
         image,
         settings,
+        names,
+        watch,
         gate: context.gate,
         predict: context.predict,
         alloc: context.alloc,
@@ -65,15 +191,7 @@ pub fn perform_stress<
     context.gate.begin_all(count);
     let tallied = runs.tally(count, keep, &mut context.files);
     context.gate.end_all();
-    // Handed on as it is: a `?` would leave the prover to find what the refusal becomes.
-    let tally = match tallied {
-        Ok(tally) => tally,
-        Err(refused) => return Err(refused),
-    };
-    match report_tally(count, &tally, &mut context.out) {
-        Ok(()) => Ok(tally.status()),
-        Err(_) => Err(Refused::Output),
-    }
+    tallied
 }
 
 /// How many runs are made where so many are asked for.
@@ -90,6 +208,8 @@ struct Runs<'a, G, P, R> {
     rt: &'a R,
     image: &'a Image,
     settings: &'a Settings,
+    names: &'a Symbols<'a>,
+    watch: &'a Watch,
     gate: &'a G,
     predict: P,
     alloc: Global,
@@ -99,12 +219,13 @@ impl<G: Gate + Sync, P: Predict + Copy + Send, R: Threads + Wait + Sync> Runs<'_
     /// Makes so many runs, and counts their ends.
     fn tally<F: EndFiles>(&self, count: u32, keep: bool, files: &mut F) -> Result<Tally, Refused>
         requires some { 1 ≤ count }
+        requires there { IsAllThere self.now.image.now self.now.settings.now.config.harts self.now.watch.now }
         requires works { F.has_failed files.old ≡ false }
         requires finished { F.is_finished files.old ≡ true }
         ensures refused { IfErr result (IsRunRefusal self.now.settings.now) }
-        ensures tallied { IfOk result (HasTallied self.now.settings.now self.now.image.now
-            (AreEndsWritten F.begins F.written F.has_failed files.old files.new keep)
-            count) }
+        ensures tallied { IfOk result (HasTallied self.now.settings.now self.now.image.now self.now.watch.now
+            (AreEndsWritten F.begins F.written F.has_failed files.old files.new keep (table_of self.now.names.now)
+            self.now.watch.now) count) }
         ensures unwanted { keep ≡ false → files.new ≡ files.old }
         ensures unbroken { OnOk result (F.has_failed files.new ≡ false) }
         ensures finished { OnOk result (F.is_finished files.new ≡ true) }
@@ -124,12 +245,13 @@ impl<G: Gate + Sync, P: Predict + Copy + Send, R: Threads + Wait + Sync> Runs<'_
         tally: &mut Tally,
         files: &mut F,
     ) -> Result<(), Refused>
+        requires there { IsAllThere self.now.image.now self.now.settings.now.config.harts self.now.watch.now }
         requires works { F.has_failed files.old ≡ false }
         requires finished { F.is_finished files.old ≡ true }
         ensures refused { IfErr result (IsRunRefusal self.now.settings.now) }
-        ensures ran { OnOk result (HasRunOnce self.now.settings.now self.now.image.now
-            (IsEndWritten F.begins F.written F.has_failed files.old files.new keep)
-            tally.old tally.new) }
+        ensures ran { OnOk result (HasRunOnce self.now.settings.now self.now.image.now self.now.watch.now
+            (IsEndWritten F.begins F.written F.has_failed files.old files.new keep (table_of self.now.names.now)
+            self.now.watch.now) tally.old tally.new) }
         ensures unwanted { keep ≡ false → files.new ≡ files.old }
         ensures unbroken { OnOk result (F.has_failed files.new ≡ false) }
         ensures finished { OnOk result (F.is_finished files.new ≡ true) }
@@ -142,26 +264,31 @@ impl<G: Gate + Sync, P: Predict + Copy + Send, R: Threads + Wait + Sync> Runs<'_
             self.predict,
             self.alloc,
         )?;
-        let number = match tally.count(&finished.core, self.alloc) {
+        let number = match tally.count(&finished.core, self.watch, self.alloc) {
             Ok(number) => number,
             Err(AllocError) => return Err(Refused::Memory),
         };
-        keep_first(keep, number, &finished.core, files)
+        keep_first(keep, number, &finished.core, self.names, files, self.alloc)
     }
 }
 
-/// Has a run kept where that is wanted and its end is new, and so has this number.
+/// Has a run kept where that is wanted and its end is new, and so has this number. The story has these names.
+#[inline(never)]
 fn keep_first<F: EndFiles>(
     keep: bool,
     number: Option<u64>,
     core: &Core,
+    names: &Symbols<'_>,
     files: &mut F,
+    alloc: Global,
 ) -> Result<(), Refused>
     requires works { F.has_failed files.old ≡ false }
     requires finished { F.is_finished files.old ≡ true }
-    ensures refused { IfErr result (λ reason. reason ≡ Output) }
-    ensures kept { OnOk result ((rows : List Row) → number ≡ next_number (end_of core.now) rows
-        → IsEndWritten F.begins F.written F.has_failed files.old files.new keep rows core.now) }
+    ensures refused { IfErr result (λ reason. (reason ≡ Memory) ⊎ (reason ≡ Output)) }
+    ensures kept { OnOk result ((watch : AnyWatch) (rows : List Row)
+        → number ≡ next_number (end_of watch core.now) rows
+        → IsEndWritten F.begins F.written F.has_failed files.old files.new keep (table_of names.now) watch rows
+        core.now) }
     ensures unwanted { keep ≡ false → files.new ≡ files.old }
     ensures unbroken { OnOk result (F.has_failed files.new ≡ false) }
     ensures finished { OnOk result (F.is_finished files.new ≡ true) }
@@ -172,7 +299,11 @@ fn keep_first<F: EndFiles>(
     if !keep {
         return Ok(());
     }
-    match keep_end(core, number, files) {
+    let story = match kept_story(core, names, alloc) {
+        Ok(story) => story,
+        Err(refused) => return Err(refused),
+    };
+    match keep_end(core, number, story.as_slice(), files) {
         Ok(()) => Ok(()),
         Err(_) => Err(Refused::Output),
     }

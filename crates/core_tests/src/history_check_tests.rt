@@ -6,7 +6,9 @@ use crate::first_program::{ended_core, first_image};
 use crate::first_trace::{ROWS, Row, trace_with};
 use crate::plain_run_tests::has_record;
 use crate::rows::holds;
-use history_check::{CheckRefused, Stopped, Unfollowed, check, follow_until, run_again};
+use history_check::{
+    CheckRefused, Stopped, Unfollowed, check, follow_until, retirement_order, run_again,
+};
 use smt_core::Status;
 use std::alloc::Global;
 
@@ -83,4 +85,20 @@ fn runs_again(alloc: Global) -> bool {
 #[test]
 fn what_a_core_has_retired_runs_again(rt: HostRuntime) {
     holds(&rt, "the first program", runs_again(rt.alloc()));
+}
+
+/// Whether the order of a core that has ended is its one hart, three times.
+fn has_its_order(alloc: Global) -> bool {
+    let Some(core) = ended_core(alloc) else {
+        return false;
+    };
+    match retirement_order(&core, alloc) {
+        Ok(order) => order.as_slice() == [0, 0, 0].as_slice(),
+        Err(_) => false,
+    }
+}
+
+#[test]
+fn an_order_of_retirement_has_the_harts_of_the_records(rt: HostRuntime) {
+    holds(&rt, "the first program", has_its_order(rt.alloc()));
 }

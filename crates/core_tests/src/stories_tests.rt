@@ -6,7 +6,9 @@ use rv_word::AmoKind;
 use sc_machine::Plain;
 use std::alloc::Global;
 use std::test::Fail;
-use stories::{Deed, Note, Recent, Row, Teller, deed_of, row_of, step_of};
+use stories::{
+    Deed, Note, Recent, Row, Span, Teller, deed_of, read_span, row_of, step_of, written_span,
+};
 use test_support::{file_of, image_of};
 
 /// `lui x6,0x80001`, `lr.w x5,(x6)`, `sc.w x7,x10,(x6)`, `amoadd.w x8,x11,(x6)`, `ebreak`.
@@ -121,6 +123,46 @@ fn rows_named(note: Option<Note>) -> Option<(u64, u64)> {
         Some(Note::Overwrites { read, write }) => Some((read.number, write.number)),
         Some(Note::Again { read, write }) => Some((read.number, write.number)),
         _ => None,
+    }
+}
+
+/// How many bytes these are; 0 where there are none.
+fn size_of(span: Option<Span>) -> u8 {
+    match span {
+        Some(span) => span.size,
+        None => 0,
+    }
+}
+
+#[test]
+fn a_step_reads_or_writes_what_its_instruction_names(rt: HostRuntime) {
+    let addr = 0x8000_1000;
+    let rows = [
+        (
+            Deed::Loaded {
+                op: LoadOp::Lhu,
+                addr,
+                number: 5,
+            },
+            2,
+            0,
+        ),
+        (Deed::Reserved { addr, number: 5 }, 4, 0),
+        (
+            Deed::Stored {
+                op: StoreOp::Sb,
+                addr,
+                number: 5,
+            },
+            0,
+            1,
+        ),
+        (Deed::Conditional { addr, number: 5 }, 0, 4),
+        (Deed::Failed { addr }, 0, 0),
+    ];
+    for (deed, read, written) in rows {
+        assert!(rt; size_of(read_span(&deed)) == read);
+        assert!(rt; size_of(written_span(&deed)) == written);
     }
 }
 

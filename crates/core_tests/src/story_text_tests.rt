@@ -36,7 +36,7 @@ const STORING: [u32; 8] = [
 ];
 
 const LOST: &str =
-    "     h0                      h1\n     (1 step)\n1    lw 80001000 \u{2192} 0\n     (1 step)\n2                            lw 80001000 \u{2192} 0\n3                            sw 80001000 \u{2190} 1\n4    sw 80001000 \u{2190} 0, lost update: hart 1's sw at row 3 came after its read at row 1\n";
+    "     h0                      h1\n     (1 step)\n1    lw 80001000 \u{2192} 0\n     (1 step)\n2                            lw 80001000 \u{2192} 0\n3                            sw 80001000 \u{2190} 1\n4    sw 80001000 \u{2190} 0, lost update: hart 1's sw at row 3 came after the read at row 1\n";
 
 fn machine(alloc: Global) -> Option<Plain> {
     machine_of(&RESERVING, alloc)

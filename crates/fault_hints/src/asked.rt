@@ -54,12 +54,17 @@ pub(crate) fn add_hart(
     hint: &mut Hint,
     alloc: Global,
 ) -> Result<(), AllocError> {
-    if let Command::OfProgram(ProgramCommand::Outcomes(asked)) = fault.line.command {
-        let (option, _) = condition_in(asked.question);
-        let word = format!(in alloc; "hart {hart} in {option} or --watch")?;
-        hint.add(Part::Word, word.as_bytes())?;
-        return add_harts(fault, hint, alloc);
-    }
+    let word = match options_of(&fault.line.command) {
+        Some(AskedBy::ListAnd(option)) => format!(in alloc; "hart {hart} in {option} or --watch")?,
+        Some(AskedBy::List) => format!(in alloc; "hart {hart} in --watch")?,
+        None => return add_drawn_hart(hart, hint, alloc),
+    };
+    hint.add(Part::Word, word.as_bytes())?;
+    add_harts(fault, hint, alloc)
+}
+
+/// Adds that a hart was to be drawn that the core of a trace hasn't.
+fn add_drawn_hart(hart: u32, hint: &mut Hint, alloc: Global) -> Result<(), AllocError> {
     let word = format!(in alloc; "--hart {hart}")?;
     hint.add(Part::Word, word.as_bytes())?;
     hint.add(Part::Cause, b"the core of the trace has no such hart")
@@ -96,10 +101,12 @@ pub(crate) fn add_watch(
     hint: &mut Hint,
     alloc: Global,
 ) -> Result<(), AllocError> {
-    if let Command::OfProgram(ProgramCommand::Outcomes(asked)) = fault.line.command {
-        return add_query("--watch", asked.watch, why, fault, hint, alloc);
-    }
-    Ok(())
+    let list = match fault.line.command {
+        Command::OfProgram(ProgramCommand::Outcomes(asked)) => asked.watch,
+        Command::OfProgram(ProgramCommand::Run(run)) => run.watch,
+        _ => return Ok(()),
+    };
+    add_query("--watch", list, why, fault, hint, alloc)
 }
 
 /// Adds where a condition is misspelled.
@@ -109,11 +116,38 @@ pub(crate) fn add_condition(
     hint: &mut Hint,
     alloc: Global,
 ) -> Result<(), AllocError> {
-    if let Command::OfProgram(ProgramCommand::Outcomes(asked)) = fault.line.command {
-        let (option, text) = condition_in(asked.question);
-        return add_query(option, text, why, fault, hint, alloc);
+    let question = match fault.line.command {
+        Command::OfProgram(ProgramCommand::Outcomes(asked)) => asked.question,
+        Command::OfProgram(ProgramCommand::Run(run)) => run.question,
+        _ => return Ok(()),
+    };
+    let (option, text) = condition_in(question);
+    add_query(option, text, why, fault, hint, alloc)
+}
+
+/// By which options a command asks for what is watched.
+#[derive(Clone, Copy, Drop)]
+enum AskedBy {
+    /// By its list alone.
+    List,
+    /// By its list, and by the condition of this option.
+    ListAnd(&'static str),
+}
+
+/// By which options a command asks for what is watched, if it does.
+fn options_of(command: &Command<'_>) -> Option<AskedBy> {
+    match command {
+        Command::OfProgram(ProgramCommand::Outcomes(asked)) => {
+            let (option, _) = condition_in(asked.question);
+            Some(AskedBy::ListAnd(option))
+        }
+        Command::OfProgram(ProgramCommand::Run(run)) if run.question.is_some() => {
+            let (option, _) = condition_in(run.question);
+            Some(AskedBy::ListAnd(option))
+        }
+        Command::OfProgram(ProgramCommand::Run(_)) => Some(AskedBy::List),
+        _ => None,
     }
-    Ok(())
 }
 
 /// The option that a question has its condition from, and the condition.
@@ -154,11 +188,12 @@ pub(crate) fn add_absent_word(
     alloc: Global,
 ) -> Result<(), AllocError> {
     let address = bytes.address;
-    let option = match fault.line.command {
-        Command::OfProgram(ProgramCommand::Outcomes(asked)) => condition_in(asked.question).0,
-        _ => "--exists",
+    let word = match options_of(&fault.line.command) {
+        Some(AskedBy::ListAnd(option)) => format!(in alloc;
+            "{address:08x} in {option} or --watch"
+        )?,
+        Some(AskedBy::List) | None => format!(in alloc; "{address:08x} in --watch")?,
     };
-    let word = format!(in alloc; "{address:08x} in {option} or --watch")?;
     hint.add(Part::Word, word.as_bytes())?;
     let Ok(text) = fault.inputs.config else {
         return Ok(());

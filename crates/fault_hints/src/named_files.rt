@@ -35,7 +35,10 @@ fn written_role(line: &Line<'_>) -> &'static str {
             "the order"
         }
         Command::OfProgram(ProgramCommand::Outcomes(asked)) if asked.story.is_some() => "the story",
-        Command::OfProgram(ProgramCommand::Outcomes(_)) => "the script",
+        Command::OfProgram(ProgramCommand::Outcomes(asked)) if asked.script.is_some() => {
+            "the script"
+        }
+        Command::OfProgram(ProgramCommand::Outcomes(_) | ProgramCommand::Plain(_)) => "the picture",
         Command::Litmus(asked) if asked.image.is_some() => "the image",
         Command::Litmus(_) => "the picture",
         _ => "the trace",

@@ -77,6 +77,7 @@ fn add_asked_fault(
         Refused::NoHart(hart) => add_hart(hart, fault, hint, alloc),
         Refused::Harts => add_two_cores(fault, hint, alloc),
         Refused::Picture(last) => add_picture(last, hint, alloc),
+        Refused::LongStory => hint.add(Part::Cause, b"more than 1000 rows are no picture any more"),
         Refused::Lines { line, fault: why } => add_source_line(line, why, fault, hint, alloc),
         Refused::NamesNothing(option) => add_nothing_named(option, fault, hint, alloc),
         Refused::NamesSeveral(option) => add_several_named(option, fault, hint, alloc),

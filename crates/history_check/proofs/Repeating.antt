@@ -1,6 +1,6 @@
 -- The run of a core's records comes to what the core's account says, and no step of it is refused.
 use Rattle.std.proofs.Common.{◌≡◌, ℕ, List, [], ◌∷◌, ◌++◌, Some, None, map, reverse, refl, ap, sym, ◌∙◌}
-use Rattle.std.proofs.lemmas.List.{map-append, reverse-append}
+use Rattle.std.proofs.lemmas.List.{map-append, reverse-append, reverse-reverse}
 use Rattle.elf_image.specs.Image.{ProgramImage}
 use Rattle.smt_model.specs.{Words.Record, Plain.Run, Plain.run}
 use Rattle.smt_model.specs.{Account.records, Basics.below, Memory.output, Memory.status}
@@ -9,7 +9,7 @@ use Rattle.core_state.specs.View.{CoreView}
 use Rattle.sc_machine.specs.declared.refused.Stopped.{Stopped}
 use Rattle.smt_core.specs.Headline.{IsPlainRun}
 use Rattle.plain_run.specs.{Left.Left, Orders.HasLeft, Orders.IsStoppedAt}
-use Rattle.history_check.specs.Rerun.{IsAccountOf}
+use Rattle.history_check.specs.Rerun.{IsAccountOf, IsRetirementOrder}
 
 map-reverse : (f : Record → ℕ) (xs : List Record) → map f (reverse xs) ≡ reverse (map f xs)
 map-reverse f [] = refl
@@ -47,3 +47,11 @@ module _ (core : CoreView) (retired : List Record) (bytes : List ℕ) (statuses 
       → core.setup.harts ≡ harts_there → IsStoppedAt image harts_there order index why → ⊥
   not_stopped image harts_there index why of_image of_harts stopped =
       no_run is.ran (sym runs_order ∙ (stopped.at core.setup of_image of_harts).undefined)
+
+  pub in_order : retired ≡ reverse (records core.past) → IsRetirementOrder core order
+  in_order of_records = record {
+    reversed = ap reverse (harts ∙ (ap (map (λ (r : Record). r.hart)) of_records
+        ∙ map-reverse (λ (r : Record). r.hart) (records core.past)))
+        ∙ reverse-reverse (map (λ (r : Record). r.hart) (records core.past));
+    unstopped = λ index why stopped. not_stopped core.setup.image core.setup.harts index why refl refl stopped;
+  }

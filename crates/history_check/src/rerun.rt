@@ -1,5 +1,5 @@
 ghost use Rattle.std.specs.Prelude.{◌≡◌, map, IfOk};
-ghost use Rattle.history_check.specs.Rerun.{IsAccountOf};
+ghost use Rattle.history_check.specs.Rerun.{IsAccountOf, IsRetirementOrder};
 
 use events::Record;
 use plain_run::{OrderStopped, PlainRun, run_order};
@@ -19,6 +19,15 @@ pub fn run_again(core: &Core, alloc: Global) -> Result<PlainRun, AllocError>
         Err(OrderStopped::Harts) => unreachable!(),
         Err(OrderStopped::Step { .. }) => unreachable!(),
     }
+}
+
+/// The order in which a core has retired: the hart of each of its records, the oldest first. The plain machine stops at
+/// no step of it. Errors: want of memory.
+pub fn retirement_order(core: &Core, alloc: Global) -> Result<Vec<u8>, AllocError>
+    ensures { IfOk result (λ order. IsRetirementOrder core.now order.items) }
+{
+    let account = core.account();
+    harts_of(account.records, alloc)
 }
 
 /// The harts of some records, in their order.

@@ -3,7 +3,7 @@
 use Rattle.std.specs.Prelude.{ℕ, ◌+◌, Bool, true, false, not, if◌then◌else◌, List, [], ◌∷◌, ◌++◌, codes}
 use Rattle.std.specs.{Fmt.decimal, List.list_all, List.list_any}
 use Rattle.outcomes.specs.{Found.Told}
-use Rattle.watched_outcomes.specs.{declared.watch.Watch.Watch}
+use Rattle.watched_outcomes.specs.{declared.watch.Watch.Watch, Endings.Ending}
 use Rattle.outcome_queries.specs.declared.condition.Condition.{Condition}
 use Rattle.outcome_queries.specs.declared.question.{Question.Question, Answer.Answer}
 use Rattle.outcome_queries.specs.declared.question.Question.TheVariants.{Exists, ForAll, Never, NeverStuck}
@@ -32,12 +32,23 @@ answer_of watch (Never condition) listed is_whole is_stuck =
 answer_of watch NeverStuck listed is_whole is_stuck =
     if_whole is_whole (if is_stuck then answer.No else answer.Yes)
 
+-- An end of its own settles a question: the condition holds of it; or doesn't, where it is asked of each. However many
+-- other ends there are, this is answered then.
+abbrev pub settles : Watch → Question → Ending → Bool
+settles watch (Exists condition) ending = condition_holds watch ending condition
+settles watch (ForAll condition) ending = not (condition_holds watch ending condition)
+settles watch (Never condition) ending = condition_holds watch ending condition
+settles watch NeverStuck ending = false
+
+abbrev pub settled : Question → Answer
+settled (Exists condition) = answer.Yes
+settled (ForAll condition) = answer.No
+settled (Never condition) = answer.No
+settled NeverStuck = answer.Unknown
+
 -- The outcomes that settle a question, and whether there are such where this is answered.
 abbrev pub is_named : Watch → Question → Told → Bool
-is_named watch (Exists condition) told = holds_of watch condition told
-is_named watch (ForAll condition) told = not (holds_of watch condition told)
-is_named watch (Never condition) told = holds_of watch condition told
-is_named watch NeverStuck told = false
+is_named watch question told = settles watch question told.ending
 
 abbrev pub names_lines : Question → Answer → Bool
 names_lines (Exists condition) answer.Yes = true

@@ -34,6 +34,10 @@ abbrev pub columns_text : ℕ → List Asked → List ℕ → List ℕ
 columns_text before columns numbers =
     each_from (λ index asked. column_text before index asked (slice_index numbers index)) 0 columns
 
+abbrev pub watched_text : List Asked → List Asked → Ending → List ℕ
+watched_text registers words ending =
+    columns_text 0 registers ending.registers ++ columns_text (length registers) words ending.words
+
 -- The bytes that were put out, two hexadecimal digits each.
 abbrev pub output_lead : List ℕ → List ℕ
 output_lead [] = []

@@ -6,6 +6,7 @@ ghost use Rattle.std.specs.List.{list_all, list_any};
 ghost use Rattle.text_fields.specs.Each.{each_from};
 ghost use Rattle.outcome_text.specs.Answers.{answer_of, if_whole, answer_text, answer_words, question_words, lines_text};
 ghost use Rattle.outcome_text.specs.Answers.{holds_of, is_named, names_lines, place_of, place_text};
+ghost use Rattle.outcome_text.specs.Answers.{settled, settles};
 ghost use Rattle.outcomes.specs.Found.{Told};
 
 use arrayvec::ArrayString;
@@ -109,7 +110,8 @@ pub fn write_answer<W: Write>(
     out.write_all(b"\n")
 }
 
-fn question_words(question: &Question<'_>) -> &'static str
+/// What stands before the answer to a question.
+pub fn question_words(question: &Question<'_>) -> &'static str
     ensures { result.now ≡ question_words question.now }
 {
     match question {
@@ -120,7 +122,8 @@ fn question_words(question: &Question<'_>) -> &'static str
     }
 }
 
-fn answer_words(answer: Answer) -> &'static str
+/// An answer in words.
+pub fn answer_words(answer: Answer) -> &'static str
     ensures { result.now ≡ answer_words answer }
 {
     match answer {
@@ -150,7 +153,7 @@ fn write_lines<W: Write>(
 }
 
 /// Whether outcomes settle a question that is answered so.
-fn names_lines(question: &Question<'_>, answer: Answer) -> bool
+pub fn names_lines(question: &Question<'_>, answer: Answer) -> bool
     ensures { result ≡ names_lines question.now answer }
 {
     match answer {
@@ -192,14 +195,14 @@ fn is_named_at(question: &Question<'_>, outcomes: &Outcomes, watch: &Watch, inde
         → result ≡ is_named watch.now question.now told }
 {
     match outcomes.outcome(index) {
-        Some(outcome) => is_named(question, watch, outcome),
+        Some(outcome) => settles(question, watch, outcome),
         None => false,
     }
 }
 
-/// Whether an outcome can settle a question: its condition holds of it; of `forall`, it doesn't.
-fn is_named(question: &Question<'_>, watch: &Watch, outcome: &Outcome) -> bool
-    ensures { (told : Told) → told.ending ≡ outcome.now → result ≡ is_named watch.now question.now told }
+/// Whether an outcome of its own can settle a question: its condition holds of it; of `forall`, it doesn't.
+pub fn settles(question: &Question<'_>, watch: &Watch, outcome: &Outcome) -> bool
+    ensures { result ≡ settles watch.now question.now outcome.now }
 {
     match question {
         Question::Exists(condition) | Question::Never(condition) => holds(
@@ -210,8 +213,19 @@ fn is_named(question: &Question<'_>, watch: &Watch, outcome: &Outcome) -> bool
     }
 }
 
+/// What is answered to a question that an outcome settles, however many others there are.
+pub fn settled(question: &Question<'_>) -> Answer
+    ensures { result ≡ settled question.now }
+{
+    match question {
+        Question::Exists(_) => Answer::Yes,
+        Question::ForAll(_) | Question::Never(_) => Answer::No,
+        Question::NeverStuck => Answer::Unknown,
+    }
+}
+
 /// Writes the number of an outcome's line, where it is named.
-fn write_place<W: Write>(is_named: bool, number: usize, out: &mut W) -> io::Result<()>
+pub fn write_place<W: Write>(is_named: bool, number: usize, out: &mut W) -> io::Result<()>
     ensures { OnOk result (Appends (W.contents out.old) (W.contents out.new)
         (place_of is_named number)) }
 {

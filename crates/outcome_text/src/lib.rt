@@ -11,6 +11,9 @@ mod line;
 mod listing;
 mod unwritten;
 
-pub use answers::{answer_of, write_answer};
-pub use line::write_line;
+pub use answers::{
+    answer_of, answer_words, names_lines, question_words, settled, settles, write_answer,
+    write_place,
+};
+pub use line::{write_line, write_watched};
 pub use listing::{write_incomplete, write_outcomes};

@@ -6,7 +6,7 @@ ghost use Rattle.arrayvec.specs.ArrayString.{array_string_len};
 ghost use Rattle.text_fields.specs.Spelling.{hex};
 ghost use Rattle.text_fields.specs.Each.{each_from};
 ghost use Rattle.outcome_text.specs.Line.{status_words, status_text, comma_of};
-ghost use Rattle.outcome_text.specs.Line.{column_lead, column_text, columns_text};
+ghost use Rattle.outcome_text.specs.Line.{column_lead, column_text, columns_text, watched_text};
 ghost use Rattle.outcome_text.specs.Line.{output_lead, output_text, outcome_line};
 
 use arrayvec::ArrayString;
@@ -36,6 +36,25 @@ pub fn write_line<W: Write>(columns: &Columns<'_>, outcome: &Outcome, out: &mut 
     write_columns(registers.len(), words, outcome.words.as_slice(), out)?;
     write_output(outcome.output.as_slice(), out)?;
     out.write_all(b"\n")
+}
+
+/// Writes what is watched of an outcome, as its line has it. Where nothing is watched it writes nothing.
+pub fn write_watched<W: Write>(
+    columns: &Columns<'_>,
+    outcome: &Outcome,
+    out: &mut W,
+) -> io::Result<()>
+    ensures { OnOk result (Appends (W.contents out.old) (W.contents out.new)
+        (watched_text columns.now.registers.items columns.now.words.items outcome.now)) }
+{
+    let registers = columns.registers.as_slice();
+    write_columns(0, registers, outcome.registers.as_slice(), out)?;
+    write_columns(
+        registers.len(),
+        columns.words.as_slice(),
+        outcome.words.as_slice(),
+        out,
+    )
 }
 
 fn write_statuses<W: Write>(statuses: &[Status], out: &mut W) -> io::Result<()>

@@ -59,6 +59,8 @@ mod shared_memory_tests;
 mod sizes_tests;
 #[cfg(test)]
 mod source_lines_tests;
+#[cfg(test)]
+mod story_pictures_tests;
 mod symbols_tests;
 #[cfg(test)]
 mod text_fields_tests;

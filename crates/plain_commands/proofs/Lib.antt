@@ -1,5 +1,6 @@
 pub mod OfPlain
 pub mod OfRounds
+pub mod OfDrawnOrders
 pub mod OfSchedule
 pub mod OfOutcomes
 pub mod OfWrittenOrders

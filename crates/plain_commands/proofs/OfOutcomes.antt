@@ -90,6 +90,7 @@ module _ (settings : Settings) (image : ProgramImage) (names : Table) (command :
   }
   search_refused (reason.NoOutcome number) is = absurd is
   search_refused reason.NotStuck is = absurd is
+  search_refused reason.LongStory is = absurd is
   search_refused reason.NoAnswer is = absurd is
   search_refused (reason.Litmus place fault) is = absurd is
   search_refused reason.NothingToDraw is = absurd is
@@ -140,6 +141,7 @@ module _ (settings : Settings) (image : ProgramImage) (names : Table) (command :
     found_refused (reason.NoWord address) is = absurd (neither is)
     found_refused (reason.NoOutcome number) is = of_found _ found is_found is
     found_refused reason.NotStuck is = of_found _ found is_found is
+    found_refused reason.LongStory is = of_found _ found is_found is
     found_refused reason.NoAnswer is = of_found _ found is_found is
     found_refused (reason.Litmus place fault) is = of_found _ found is_found is
     found_refused reason.NothingToDraw is = of_found _ found is_found is

@@ -1,5 +1,5 @@
 -- The command `plain`: its refusals from those of the order and of the machine, and what it comes to.
-use Rattle.std.specs.Prelude.{◌≡◌, ℕ, Bool, List, ◌++◌, Option, Some, length, option_map}
+use Rattle.std.specs.Prelude.{◌≡◌, ℕ, Bool, List, ◌++◌, Option, Some, None, length, option_map}
 use Rattle.std.proofs.Common.{◌<◌, ◌≢◌, [], get_or, reverse, sym, subst, refl}
 use Rattle.text_fields.proofs.Appending.{appends_more}
 use Rattle.std.specs.Io.KnownBytes.{Appends}
@@ -9,8 +9,9 @@ use Rattle.plain_run.specs.{Left.Left, Orders.HasLeft, Orders.OfEachSetup}
 use Rattle.scripts.specs.Order.{IsOrder}
 use Rattle.sim_inputs.specs.declared.settings.Settings.{Settings}
 use Rattle.address_labels.specs.Labels.{Marks}
-use Rattle.report_lines.specs.Lines.{records_text, plain_report_text, status_number}
-use Rattle.command_parts.specs.declared.refused.Refused.TheVariants.{Output}
+use Rattle.report_lines.specs.Lines.{status_number}
+use Rattle.command_parts.specs.declared.refused.Refused.{Refused}
+use Rattle.command_parts.specs.declared.refused.Refused.TheVariants as reasons
 use Rattle.smt_model.specs.{Setup.Setup}
 use Rattle.plain_run.specs.Orders.{IsStoppedAt}
 use Rattle.plain_run.proofs.Refusing.{has_room, never_full, no_run}
@@ -20,37 +21,83 @@ use Rattle.story_text.specs.{Order.IsUntold, Text.Plan, Text.plan_of, Text.story
 use Rattle.story_text.specs.declared.{form.StoryForm.StoryForm, order.Untold.Untold}
 use Rattle.story_text.specs.declared.order.Untold.TheVariants as untold
 use Rattle.stories.specs.Story.{steps}
-use Rattle.plain_commands.specs.Plain.{IsPlainRefusal, IsStoryRefusal, PlainComesTo, plain_text, refused_for, told_text}
+use Rattle.story_pictures.specs.Form.{Plan as DrawnPlan}
+use Rattle.plain_commands.specs.DrawnOrders.{HasPutPicture, IsPuttingRefusal}
+use Rattle.plain_commands.specs.{Outcomes.HasPutText}
+use Rattle.plain_commands.specs.Plain.{IsMachineRefusal, IsOrderRefusal, IsPictureIf, IsPlainRefusal, IsStoryRefusal}
+use Rattle.plain_commands.specs.Plain.{HasReported, PlainComesTo}
+use Rattle.plain_commands.specs.Plain.{plain_text, ran_text, refused_for, told_text}
 
-pub output_refusal : (settings : Settings) (image : ProgramImage) (order harts : List ℕ) → IsOrder order harts
-    → IsPlainRefusal settings image order Output
-output_refusal settings image order harts read = (harts, read)
+-- What is refused of the words of an order.
+pub words_refused : (settings : Settings) (image : ProgramImage) (order : List ℕ) (is_drawn : Bool) (why : Refused)
+    → IsOrderRefusal order why → IsPlainRefusal settings image order is_drawn why
+words_refused settings image order is_drawn (reasons.Order index) is = is
+words_refused settings image order is_drawn reasons.Memory is = tt
+words_refused settings image order is_drawn _ is = absurd is
+
+-- What is refused behind the reading of the order: of the machine, of the picture, and of what is printed.
+module _ (settings : Settings) (image : ProgramImage) (order harts : List ℕ) (is_drawn : Bool) (read : IsOrder order harts)
+  where
+    pub run_refused : (why : Refused) → IsMachineRefusal image settings.config.harts harts why
+        → IsPlainRefusal settings image order is_drawn why
+    run_refused reasons.Config is = ((harts, read), is)
+    run_refused (reasons.Step index why) is = (harts, read, is)
+    run_refused reasons.Memory is = tt
+    run_refused _ is = absurd is
+
+    pub put_refused : (why : Refused) → IsPuttingRefusal image settings.config.harts harts is_drawn why
+        → IsPlainRefusal settings image order is_drawn why
+    put_refused reasons.Config is = ((harts, read), is)
+    put_refused (reasons.Step index why) is = (harts, read, is)
+    put_refused reasons.LongStory is = (is.0, (harts, read, is.1))
+    put_refused reasons.Memory is = tt
+    put_refused reasons.Output is = (harts, read)
+    put_refused _ is = absurd is
+
+    pub told_refused : (why : Refused) → IsStoryRefusal image settings.config.harts harts why
+        → IsPlainRefusal settings image order is_drawn why
+    told_refused reasons.Config is = ((harts, read), is)
+    told_refused (reasons.Step index why) is = (harts, read, is)
+    told_refused reasons.Memory is = tt
+    told_refused reasons.Output is = (harts, read)
+    told_refused _ is = absurd is
+
+-- What was put of a picture that is wanted is its text; else nothing.
+module _ {S : Type 0} (written : S → Option (List ℕ)) (has_failed : S → Bool) (old new : S) (settings : Settings)
+    (image : ProgramImage) (harts : List ℕ) where
+  pub picture_put : (drawn : Option DrawnPlan)
+      → HasPutPicture written has_failed old new image settings.config.harts drawn harts
+      → (text : Option (List ℕ)) × IsPictureIf drawn (setup_of image settings.config) harts text
+      × HasPutText written has_failed old new text
+  picture_put None is = (None, tt, is)
+  picture_put (Some plan) is = (Some is.text, is.is (setup_of image settings.config) refl refl, is.put)
 
 -- What is printed of a run is what is printed of the definitions' run that it is.
 pub comes_to : (settings : Settings) (image : ProgramImage) (order : List ℕ) (told : Option Plan)
-    (with_records : Bool) (marks : Marks) (harts listed heard : List ℕ) (left : Left)
-    (old mid new : Option (List ℕ)) (status : ℕ) → IsOrder order harts
+    (drawn : Option DrawnPlan) (with_records : Bool) (marks : Marks) (Put : Option (List ℕ) → Type 0)
+    (harts listed : List ℕ) (left : Left) (old new text : Option (List ℕ)) → IsOrder order harts
     → listed ≡ harts → OfEachSetup image settings.config.harts (λ setup. HasLeft setup listed left)
-    → heard ≡ harts
-    → OfEachSetup image settings.config.harts (λ setup. Appends old mid (told_text told setup (reverse heard)))
-    → Appends mid new (records_text with_records marks left.records
-    ++ plain_report_text (length left.records) left.statuses left.machine.output)
-    → status ≡ status_number left.statuses
-    → PlainComesTo settings image order told with_records marks old new status
-comes_to settings image order told with_records marks harts listed heard left old mid new status read same left_each
-    alike tells printed stands =
+    → IsPictureIf drawn (setup_of image settings.config) listed text → Put text → (status : ℕ)
+    → HasReported image settings.config.harts listed told with_records marks left old new status
+    → PlainComesTo settings image order told drawn with_records marks Put old new status
+comes_to settings image order told drawn with_records marks Put harts listed left old new text read same
+    left_each pictured put status reported =
     let setup = setup_of image settings.config in
     let has = left_each setup refl refl in
-    let first : Appends old mid (told_text told setup (reverse harts)) = rw alike at tells setup refl refl in
-    let then : Appends mid new (plain_text with_records marks settings.config.harts has.ran) =
-    rw (has.records, has.statuses, has.output) at printed in
+    let printed : Appends old new (told_text told setup (reverse listed)
+    ++ plain_text with_records marks settings.config.harts has.ran) =
+    rw (has.records, has.statuses, has.output) at reported.printed setup refl refl in
+    let stands = reported.stands in
     record {
       harts = harts;
       is_order = read;
       ran = has.ran;
       runs = rw same at has.runs;
-      printed = appends_more old mid new _ _ first then;
+      printed = rw same at printed;
       stands = rw has.statuses at stands;
+      text = text;
+      is_text = rw same at pictured;
+      put = put;
     }
 
 -- A step of the order that isn't told, since the machine refuses it, is one at which a run of the order stops.

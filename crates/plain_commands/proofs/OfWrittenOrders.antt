@@ -9,7 +9,7 @@ use Rattle.sim_inputs.specs.{declared.line.OutcomesCommand.OutcomesCommand}
 use Rattle.command_parts.specs.declared.refused.Refused.{Refused}
 use Rattle.command_parts.specs.declared.refused.Refused.TheVariants as reason
 use Rattle.plain_commands.specs.Outcomes.{HasPutText, IsTextIf}
-use Rattle.plain_commands.specs.Plain.{IsMachineRefusal}
+use Rattle.plain_commands.specs.{DrawnOrders.IsDrawingRefusal, Plain.IsMachineRefusal}
 use Rattle.plain_commands.specs.WrittenOrders.{HasPutOrder, IsScriptRefusal, IsTextRefusal}
 
 module _ (settings : Settings) (image : ProgramImage) (command : OutcomesCommand) (order : List ℕ) where
@@ -42,6 +42,7 @@ module _ (settings : Settings) (image : ProgramImage) (command : OutcomesCommand
   script_refused wanted (reason.NoWord address) is = (order, inl (wanted, is))
   script_refused wanted (reason.NoOutcome number) is = (order, inl (wanted, is))
   script_refused wanted reason.NotStuck is = (order, inl (wanted, is))
+  script_refused wanted reason.LongStory is = (order, inl (wanted, is))
   script_refused wanted reason.NoAnswer is = (order, inl (wanted, is))
   script_refused wanted (reason.Litmus place fault) is = (order, inl (wanted, is))
   script_refused wanted reason.NothingToDraw is = (order, inl (wanted, is))
@@ -78,6 +79,7 @@ module _ (settings : Settings) (image : ProgramImage) (command : OutcomesCommand
   story_refused (reason.NoWord address) is = (order, inr is)
   story_refused (reason.NoOutcome number) is = (order, inr is)
   story_refused reason.NotStuck is = (order, inr is)
+  story_refused reason.LongStory is = absurd is
   story_refused reason.NoAnswer is = (order, inr is)
   story_refused (reason.Litmus place fault) is = (order, inr is)
   story_refused reason.NothingToDraw is = (order, inr is)
@@ -85,6 +87,14 @@ module _ (settings : Settings) (image : ProgramImage) (command : OutcomesCommand
   story_refused reason.Thread is = (order, inr is)
   story_refused reason.File is = (order, inr is)
   story_refused reason.Output is = tt
+
+  pub picture_refused : is_some command.story_svg ≡ true → (why : Refused)
+      → IsDrawingRefusal image settings.config.harts order why → IsTextRefusal settings image command why
+  picture_refused wanted reason.Config is = (order, inr is)
+  picture_refused wanted (reason.Step index stopped) is = (order, inr is)
+  picture_refused wanted reason.LongStory is = (order, inr (wanted, is))
+  picture_refused wanted reason.Memory is = tt
+  picture_refused wanted _ is = absurd is
 
 module _ {S : Type 0} (written : S → Option (List ℕ)) (has_failed : S → Bool) (old new : S) (settings : Settings)
     (image : ProgramImage) (command : OutcomesCommand) (plan : Plan) where

@@ -1,5 +1,6 @@
 pub mod Plain
 pub mod PlainRounds
+pub mod DrawnOrders
 pub mod Schedule
 pub mod Retiring
 pub mod Questions

@@ -1,11 +1,11 @@
 -- The command `plain`: an order of harts, run on the plain machine. (This project's own choice.)
-use Rattle.std.specs.Prelude.{◌≡◌, ℕ, Bool, false, List, [], ◌++◌, Option, Some, None, length, map, reverse}
+use Rattle.std.specs.Prelude.{◌≡◌, ℕ, Bool, true, false, List, [], ◌++◌, Option, Some, None, length, map, reverse}
 use Rattle.std.specs.Io.KnownBytes.{Appends}
 use Rattle.elf_image.specs.Image.{ProgramImage}
 use Rattle.events.specs.declared.effect.Record.{Record}
 use Rattle.smt_model.specs.{declared.config.Status.Status, Basics.below, Plain.Run, Plain.run}
 use Rattle.sc_machine.specs.{Steps.are_harts}
-use Rattle.plain_run.specs.Orders.{IsStoppedAt}
+use Rattle.plain_run.specs.Orders.{IsStoppedAt, OfEachSetup}
 use Rattle.core_state.specs.Setup.{setup_of}
 use Rattle.smt_model.specs.Setup.{Setup}
 use Rattle.stories.specs.Story.{steps}
@@ -16,8 +16,11 @@ use Rattle.scripts.specs.Order.{IsOrder, IsFirstNoHart}
 use Rattle.sim_inputs.specs.{declared.settings.Settings.Settings}
 use Rattle.address_labels.specs.Labels.{Marks}
 use Rattle.report_lines.specs.Lines.{records_text, plain_report_text, status_number}
+use Rattle.story_pictures.specs.Form.{Plan as DrawnPlan}
+use Rattle.plain_run.specs.Left.{Left}
+use Rattle.plain_commands.specs.DrawnOrders.{HasLongStory, IsPictureOf}
 use Rattle.command_parts.specs.{declared.refused.Refused.Refused}
-use Rattle.command_parts.specs.declared.refused.Refused.TheVariants.{Config, Order, Step, Memory, Output}
+use Rattle.command_parts.specs.declared.refused.Refused.TheVariants.{Config, LongStory, Order, Step, Memory, Output}
 
 -- The text is an order of harts; and this holds of them.
 abbrev pub IsOrdering : List ℕ → Type 0
@@ -27,16 +30,19 @@ abbrev pub OfOrder : List ℕ → (List ℕ → Type 0) → Type 0
 OfOrder order P = (harts : List ℕ) × IsOrder order harts × P harts
 
 -- When each refusal comes: all words of the order are looked at first, then the number of harts,
--- then each step. The output is refused only behind them. Of memory nothing is said.
-abbrev pub IsPlainRefusal : Settings → ProgramImage → List ℕ → Refused → Type 0
-IsPlainRefusal settings image order Config =
+-- then each step, then how many rows are drawn, where they are. The output is refused only behind them. Of memory
+-- nothing is said.
+abbrev pub IsPlainRefusal : Settings → ProgramImage → List ℕ → Bool → Refused → Type 0
+IsPlainRefusal settings image order is_drawn Config =
     IsOrdering order × (are_harts settings.config.harts ≡ false)
-IsPlainRefusal settings image order (Order index) = IsFirstNoHart order index
-IsPlainRefusal settings image order (Step index why) =
+IsPlainRefusal settings image order is_drawn (Order index) = IsFirstNoHart order index
+IsPlainRefusal settings image order is_drawn (Step index why) =
     OfOrder order (λ harts. IsStoppedAt image settings.config.harts harts index why)
-IsPlainRefusal settings image order Memory = Unit {0}
-IsPlainRefusal settings image order Output = IsOrdering order
-IsPlainRefusal settings image order _ = ⊥
+IsPlainRefusal settings image order is_drawn LongStory =
+    (is_drawn ≡ true) × OfOrder order (λ harts. HasLongStory image settings.config.harts harts)
+IsPlainRefusal settings image order is_drawn Memory = Unit {0}
+IsPlainRefusal settings image order is_drawn Output = IsOrdering order
+IsPlainRefusal settings image order is_drawn _ = ⊥
 
 -- The parts of it: what the reading of an order answers, and its run on an image.
 abbrev pub IsOrderRefusal : List ℕ → Refused → Type 0
@@ -82,12 +88,31 @@ plain_text with_records marks harts ran =
     records_text with_records marks (retired_by ran)
     ++ plain_report_text (length (retired_by ran)) (standing harts ran) ran.state.output
 
+-- The same of what a run has left.
+abbrev pub ran_text : Bool → Marks → Left → List ℕ
+ran_text with_records marks left =
+    records_text with_records marks left.records
+    ++ plain_report_text (length left.records) left.statuses left.machine.output
+
+-- The story of an order was printed, where one is told, and behind it the report of a run that has left this.
+pub record HasReported (image : ProgramImage) (harts : ℕ) (order : List ℕ) (told : Option Plan) (with_records : Bool)
+    (marks : Marks) (left : Left) (old new : Option (List ℕ)) (exit_status : ℕ) : Type 0 where
+  pub printed : OfEachSetup image harts (λ setup. Appends old new (told_text told setup (reverse order)
+      ++ ran_text with_records marks left))
+  pub stands : exit_status ≡ status_number left.statuses
+
+-- What is written into the file of a picture: that of the order's story; or nothing, where none is wanted.
+abbrev pub IsPictureIf : Option DrawnPlan → Setup → List ℕ → Option (List ℕ) → Type 0
+IsPictureIf None setup order None = Unit {0}
+IsPictureIf (Some plan) setup order (Some text) = IsPictureOf plan setup order text
+IsPictureIf drawn setup order text = ⊥
+
 -- What the command comes to. There is a run of the definitions' machine: of this image and these
 -- settings' harts, in the order that the text says. What was printed is what is printed of it; the
--- exit status is that of its harts.
+-- exit status is that of its harts; and where a picture is wanted, it is in its file. `Put` says what was written.
 pub record PlainComesTo (settings : Settings) (image : ProgramImage) (order : List ℕ)
-    (told : Option Plan) (with_records : Bool) (marks : Marks) (old new : Option (List ℕ)) (exit_status : ℕ)
-    : Type 0 where
+    (told : Option Plan) (drawn : Option DrawnPlan) (with_records : Bool) (marks : Marks)
+    (Put : Option (List ℕ) → Type 0) (old new : Option (List ℕ)) (exit_status : ℕ) : Type 0 where
   pub harts : List ℕ
   pub is_order : IsOrder order harts
   pub ran : Run
@@ -95,3 +120,6 @@ pub record PlainComesTo (settings : Settings) (image : ProgramImage) (order : Li
   pub printed : Appends old new (told_text told (setup_of image settings.config) (reverse harts)
       ++ plain_text with_records marks settings.config.harts ran)
   pub stands : exit_status ≡ status_number (standing settings.config.harts ran)
+  pub text : Option (List ℕ)
+  pub is_text : IsPictureIf drawn (setup_of image settings.config) harts text
+  pub put : Put text

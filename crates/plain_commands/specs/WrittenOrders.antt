@@ -26,6 +26,8 @@ use Rattle.sim_inputs.specs.{declared.line.OutcomesCommand.OutcomesCommand}
 use Rattle.command_parts.specs.{declared.refused.Refused.Refused}
 use Rattle.command_parts.specs.declared.refused.Refused.TheVariants as reasons
 use Rattle.plain_commands.specs.{Plain.IsMachineRefusal, Questions.settles, Schedule.IsMakingRefusal}
+use Rattle.plain_commands.specs.DrawnOrders.{HasLongStory, IsPictureOf, picture_plan}
+use Rattle.story_pictures.specs.{Form.theme_or, declared.form.Theme.Theme}
 
 -- An order is written; and, where no outcome is named and none that is stuck, it is what settles the question.
 abbrev pub wants_order : OutcomesCommand → Bool
@@ -93,19 +95,27 @@ abbrev pub closing_text : Table → Setup → List ℕ → Option (List ℕ) →
 closing_text names setup order (Some line) = line
 closing_text names setup order None = waits_text names setup order
 
--- What is written of an order: a line for each hart; or a script by which the core retires in it; or its story.
+-- What is written of an order: a line for each hart; or a script by which the core retires in it; or its story; or a
+-- picture of that.
 abbrev pub IsStoryOf : Setup → Plan → List ℕ → Option (List ℕ) → List ℕ → Type 0
 IsStoryOf setup plan order line text =
     text ≡ story_text plan (steps setup (reverse order)) ++ closing_text plan.names setup order line
 
-abbrev pub IsTextBy : Bool → Bool → Setup → ℕ → Plan → List ℕ → Option (List ℕ) → List ℕ → Type 0
-IsTextBy true is_story setup limit plan order line text = IsScheduleOf setup limit order text
-IsTextBy false true setup limit plan order line text = IsStoryOf setup plan order line text
-IsTextBy false false setup limit plan order line text = text ≡ order_text order
+-- The picture has these colours, and at its foot what stands behind the story.
+abbrev pub IsDrawnBy : Option Theme → Setup → Plan → List ℕ → Option (List ℕ) → List ℕ → Type 0
+IsDrawnBy theme setup plan order line text =
+    IsPictureOf (picture_plan plan (closing_text plan.names setup order line) (theme_or theme)) setup order text
+
+abbrev pub IsTextBy : Bool → Bool → Bool → Option Theme → Setup → ℕ → Plan → List ℕ → Option (List ℕ) → List ℕ → Type 0
+IsTextBy true is_story is_drawn theme setup limit plan order line text = IsScheduleOf setup limit order text
+IsTextBy false true is_drawn theme setup limit plan order line text = IsStoryOf setup plan order line text
+IsTextBy false false true theme setup limit plan order line text = IsDrawnBy theme setup plan order line text
+IsTextBy false false false theme setup limit plan order line text = text ≡ order_text order
 
 abbrev pub IsTextOf : OutcomesCommand → Setup → ℕ → Plan → List ℕ → Option (List ℕ) → List ℕ → Type 0
 IsTextOf command setup limit plan order line text =
-    IsTextBy (is_some command.script) (is_some command.story) setup limit plan order line text
+    IsTextBy (is_some command.script) (is_some command.story) (is_some command.story_svg) command.theme setup limit plan
+    order line text
 
 -- The order is in the file, so written.
 pub record IsOrderPut {S : Type 0} (written : S → Option (List ℕ)) (has_failed : S → Bool) (old new : S)
@@ -149,10 +159,16 @@ abbrev pub IsScriptRefusal : Settings → ProgramImage → List ℕ → Refused 
 IsScriptRefusal settings image order reason =
     IsMakingRefusal (setup_of image settings.config) settings.limit order reason
 
--- What is refused as an order is put into a file, or its script, or its story.
+-- The machine refuses an order whose story is wanted, or a picture of that; or a picture would have too many rows.
+abbrev pub IsShownRefusal : Settings → ProgramImage → OutcomesCommand → List ℕ → Refused → Type 0
+IsShownRefusal settings image command order reasons.LongStory =
+    (is_some command.story_svg ≡ true) × HasLongStory image settings.config.harts order
+IsShownRefusal settings image command order reason = IsMachineRefusal image settings.config.harts order reason
+
+-- What is refused as an order is put into a file, or its script, or its story, or a picture of that.
 abbrev pub IsTextRefusal : Settings → ProgramImage → OutcomesCommand → Refused → Type 0
 IsTextRefusal settings image command reasons.Memory = Unit {0}
 IsTextRefusal settings image command reasons.Output = Unit {0}
 IsTextRefusal settings image command reason = (order : List ℕ)
     × ((is_some command.script ≡ true) × IsScriptRefusal settings image order reason
-    ⊎ IsMachineRefusal image settings.config.harts order reason)
+    ⊎ IsShownRefusal settings image command order reason)

@@ -37,7 +37,8 @@ use watched_outcomes::Watch;
 
 /// Writes a line for each outcome of an image that is found, for as many harts as the settings say, how many there
 /// are, whether these are all, whether each state can go on to an end, and the answer to the command's question. An
-/// order that is wanted goes into the context's files first, as it is, as its script or as its story.
+/// order that is wanted goes into the context's files first, as it is, as its script, as its story or as a picture of
+/// that.
 ///
 /// Answers the exit status: of a question 0 where it is so, 1 where it isn't, and 3 where what was found doesn't tell;
 /// without a question 0 where these are all outcomes, else 3. Refused are, in this order, a condition or a list that is
@@ -66,7 +67,7 @@ pub fn perform_outcomes<R, G: Gate, P, S: EndFiles, W: Write>(
     ensures unreported { S.has_failed context.new.files ≡ true
         → W.contents context.new.out ≡ W.contents context.old.out }
 {
-    let question = match question_of(command, names, context.alloc) {
+    let question = match question_of(command.question, names, context.alloc) {
         Ok(question) => question,
         Err(refused) => return Err(refused),
     };

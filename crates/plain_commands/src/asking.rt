@@ -1,4 +1,5 @@
-//! What the command `outcomes` asks: its question, and what is watched for that and for its list.
+//! What the command `outcomes` asks, and `run --times` as it does: its question, and what is watched for that and for its
+//! list.
 
 ghost use Rattle.std.specs.Prelude.{◌≡◌, ◌≤◌, IfOk, IfErr, OnOk, All, length};
 ghost use Rattle.symbols.specs.Tables.{table_of};
@@ -16,17 +17,17 @@ use sim_inputs::{OutcomesCommand, QuestionText};
 use std::alloc::Global;
 use symbols::Symbols;
 
-/// The question of a command; none where none is asked.
-pub(crate) fn question_of<'a>(
-    command: &OutcomesCommand<'a>,
+/// The question of a command's words; none where none is asked.
+pub fn question_of<'a>(
+    text: Option<QuestionText<'a>>,
     names: &Symbols<'_>,
     alloc: Global,
 ) -> Result<Option<Question<'a>>, Refused>
-    ensures read { IfOk result (IsQuestionOf (table_of names.now) command.now.question) }
+    ensures read { IfOk result (IsQuestionOf (table_of names.now) text.entry) }
     ensures few { IfOk result (λ question. length (terms_asked question) ≤ 32) }
-    ensures refused { IfErr result (IsConditionRefused (table_of names.now) command.now.question) }
+    ensures refused { IfErr result (IsConditionRefused (table_of names.now) text.entry) }
 {
-    let Some(text) = command.question else {
+    let Some(text) = text else {
         return Ok(None);
     };
     match text {
@@ -64,7 +65,7 @@ fn condition_of<'a>(
 }
 
 /// The terms of a question's condition; none where it has none.
-pub(crate) fn terms_asked<'a>(question: &Option<Question<'a>>) -> Terms<'a>
+pub fn terms_asked<'a>(question: &Option<Question<'a>>) -> Terms<'a>
     requires { length (terms_asked question.now) ≤ 32 }
     ensures { result.items ≡ terms_asked question.now }
 {
@@ -77,7 +78,7 @@ pub(crate) fn terms_asked<'a>(question: &Option<Question<'a>>) -> Terms<'a>
 }
 
 /// Refuses a condition that names a hart which isn't there.
-pub(crate) fn see_harts(terms: &Terms<'_>, harts: u8) -> Result<(), Refused>
+pub fn see_harts(terms: &Terms<'_>, harts: u8) -> Result<(), Refused>
     ensures there { OnOk result (All (IsHartThere harts) terms.now.items) }
     ensures refused { IfErr result (IsHartRefusal harts terms.now.items) }
 {

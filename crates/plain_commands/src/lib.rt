@@ -3,12 +3,14 @@
 //! A module a command: `plain` and `plain_rounds` (an order, and turns without one), `schedule` (the script that
 //! makes a core retire in an order), `all_outcomes` and `litmus` (both over `searching`). Beside the first of these
 //! stand `asking` (its question, and what is watched), `settling` (which outcome answers it) and `written_orders` (the
-//! order that it writes). `retiring` has the law that a printed schedule is retired. What each command comes to, and when each of its refusals comes, stands in
+//! order that it writes), and beside `plain` too `drawn_orders` (the picture of an order's story). `retiring` has the
+//! law that a printed schedule is retired. What each command comes to, and when each of its refusals comes, stands in
 //! `specs` under the command's name.
 #![tactic(auto)]
 
 mod all_outcomes;
 mod asking;
+mod drawn_orders;
 mod litmus;
 mod plain;
 mod plain_rounds;
@@ -20,7 +22,9 @@ mod written_orders;
 mod written_stories;
 
 pub use all_outcomes::perform_outcomes;
+pub use asking::{question_of, see_harts, terms_asked};
 pub use litmus::{perform_litmus, perform_test};
-pub use plain::perform_plain;
+pub use plain::{perform_plain, tell_image};
 pub use plain_rounds::{MOST_STEPS, perform_rounds, rounds_of};
 pub use schedule::perform_schedule;
+pub use settling::status_of_answer;

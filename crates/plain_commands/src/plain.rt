@@ -1,6 +1,6 @@
 //! The command `plain`: an order of harts, run on the plain machine.
 
-ghost use Rattle.std.specs.Prelude.{◌≡◌, [], IfOk, IfErr, IfSome, OnOk, option_map, reverse};
+ghost use Rattle.std.specs.Prelude.{◌≡◌, [], IfOk, IfErr, IfSome, OnOk, option_map, reverse, is_some, true, false};
 ghost use Rattle.std.specs.Io.KnownBytes.{Appends};
 ghost use Rattle.plain_run.specs.Orders.{HasLeft, OfEachSetup};
 ghost use Rattle.address_labels.specs.Labels.{marks_of};
@@ -8,10 +8,13 @@ ghost use Rattle.scripts.specs.Order.{IsOrder};
 ghost use Rattle.command_parts.specs.declared.refused.Refused.TheVariants.{Output};
 ghost use Rattle.story_text.specs.Text.{plan_of};
 ghost use Rattle.plain_commands.specs.Plain.{IsPlainRefusal, PlainComesTo, refused_for, told_text};
-ghost use Rattle.plain_commands.specs.Plain.{IsOrderRefusal, IsMachineRefusal, IsStoryRefusal};
+ghost use Rattle.plain_commands.specs.Plain.{HasReported, IsOrderRefusal, IsMachineRefusal, IsStoryRefusal};
+ghost use Rattle.plain_commands.specs.Outcomes.{HasPutText};
+ghost use Rattle.story_pictures.specs.Form.{plan_of as drawn_plan_of};
 
+use crate::drawn_orders::put_picture;
 use address_labels::Labels;
-use command_parts::Refused;
+use command_parts::{Context, Refused};
 use elf_image::Image;
 use plain_run::{OrderStopped, PlainRun, run_order};
 use report_lines::status_of;
@@ -21,41 +24,92 @@ use scripts::{OrderRefused, read_order};
 use sim_inputs::Settings;
 use std::alloc::Global;
 use std::io::Write;
+use story_pictures::PictureForm;
 use story_text::{StoryForm, Untold, tell_order};
+use stress_runs::EndFiles;
 
 /// Runs the plain machine of an image in the order that a text says, and writes what it comes to: the story of the
-/// order and the records, where they are wanted, and the report. Answers the exit status: how the harts stand.
+/// order and the records, where they are wanted, and the report. A picture of the story that is wanted goes into the
+/// context's files first. Answers the exit status: how the harts stand.
 ///
-/// Refused are, in this order, the first word of the order that is no number, a number of harts that
-/// the machine doesn't have, and the first step that it doesn't make; then nothing is printed.
-/// `Output` is answered where `out` failed.
+/// Refused are, in this order, the first word of the order that is no number, a number of harts that the machine
+/// doesn't have, the first step that it doesn't make, and a picture of too many rows; then nothing is printed.
+/// `Output` is answered where `out` or `files` failed.
 #[inline(never)]
-pub fn perform_plain<W: Write>(
+pub fn perform_plain<R, G, P, S: EndFiles, W: Write>(
+    context: &mut Context<'_, R, G, P, S, W>,
     image: &Image,
     settings: &Settings,
     order: &[u8],
+    story: &Option<StoryForm<'_>>,
+    picture: &Option<PictureForm<'_, '_>>,
+    records: bool,
+    labels: &Labels<'_>,
+) -> Result<u8, Refused>
+    requires harts { IfSome story.now (λ form. form.harts ≡ settings.now.config.harts) }
+    requires works { S.has_failed context.old.files ≡ false }
+    requires finished { S.is_finished context.old.files ≡ true }
+    ensures refused { IfErr result (IsPlainRefusal settings.now image.now order.now (is_some picture.now)) }
+    ensures ended { IfOk result (PlainComesTo settings.now image.now order.now (option_map plan_of story.now)
+        (option_map drawn_plan_of picture.now) records (marks_of labels.now)
+        (HasPutText S.written S.has_failed context.old.files context.new.files)
+        (W.contents context.old.out) (W.contents context.new.out)) }
+    ensures unwanted { is_some picture.now ≡ false → context.new.files ≡ context.old.files }
+    ensures unbroken { OnOk result (S.has_failed context.new.files ≡ false) }
+    ensures finished { OnOk result (S.is_finished context.new.files ≡ true) }
+    ensures unreported { S.has_failed context.new.files ≡ true
+        → W.contents context.new.out ≡ W.contents context.old.out }
+{
+    let alloc = context.alloc;
+    let harts = match harts_of(order, alloc) {
+        Ok(harts) => harts,
+        Err(refused) => return Err(refused),
+    };
+    let list = harts.as_slice();
+    let count = settings.config.harts;
+    let ran = match run_image(image, count, list, alloc) {
+        Ok(ran) => ran,
+        Err(refused) => return Err(refused),
+    };
+    match put_picture(image, count, list, picture, &mut context.files, alloc) {
+        Ok(()) => {}
+        Err(refused) => return Err(refused),
+    }
+    report_order(
+        image,
+        count,
+        list,
+        &ran,
+        story,
+        records,
+        labels,
+        &mut context.out,
+        alloc,
+    )
+}
+
+/// Writes the story of an order, where it is wanted, and the report of its run. Answers the exit status.
+fn report_order<W: Write>(
+    image: &Image,
+    harts: u8,
+    order: &[u8],
+    ran: &PlainRun,
     story: &Option<StoryForm<'_>>,
     records: bool,
     labels: &Labels<'_>,
     out: &mut W,
     alloc: Global,
 ) -> Result<u8, Refused>
-    requires { IfSome story.now (λ form. form.harts ≡ settings.now.config.harts) }
-    ensures refused { IfErr result (IsPlainRefusal settings.now image.now order.now) }
-    ensures ended { IfOk result (PlainComesTo settings.now image.now order.now (option_map plan_of story.now) records
-        (marks_of labels.now) (W.contents out.old) (W.contents out.new)) }
+    requires harts { IfSome story.now (λ form. form.harts ≡ harts) }
+    ensures reported { IfOk result (HasReported image.now harts order.now (option_map plan_of story.now) records
+        (marks_of labels.now) ran.now (W.contents out.old) (W.contents out.new)) }
+    ensures refused { IfErr result (IsStoryRefusal image.now harts order.now) }
 {
-    let harts = harts_of(order, alloc)?;
-    let ran = run_image(image, settings.config.harts, harts.as_slice(), alloc)?;
-    tell_image(
-        image,
-        settings.config.harts,
-        harts.as_slice(),
-        story,
-        out,
-        alloc,
-    )?;
-    match report_plain(&ran, records, labels, out) {
+    match tell_image(image, harts, order, story, out, alloc) {
+        Ok(()) => {}
+        Err(refused) => return Err(refused),
+    }
+    match report_plain(ran, records, labels, out) {
         Ok(()) => Ok(status_of(ran.statuses().as_slice())),
         Err(_) => Err(Refused::Output),
     }
@@ -87,8 +141,12 @@ fn run_image(image: &Image, harts: u8, order: &[u8], alloc: Global) -> Result<Pl
     }
 }
 
-/// Tells the story of an order that the plain machine of an image makes, where it is wanted.
-pub(crate) fn tell_image<W: Write>(
+/// Tells the story of an order that the plain machine of an image makes, where it is wanted: it is told as it goes.
+///
+/// Refused are, in this order, a number of harts that the machine doesn't have, and the first step that it doesn't
+/// make, behind the story of those before it; `Memory` where there is none for the machine, and `Output` where `out`
+/// failed.
+pub fn tell_image<W: Write>(
     image: &Image,
     harts: u8,
     order: &[u8],

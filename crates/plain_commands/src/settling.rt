@@ -72,7 +72,7 @@ fn settles_at(
 }
 
 /// The exit status that goes with an answer.
-pub(crate) fn status_of_answer(answer: Answer) -> u8
+pub fn status_of_answer(answer: Answer) -> u8
     ensures { result ≡ status_of_answer answer }
 {
     match answer {

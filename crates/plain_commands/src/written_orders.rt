@@ -15,6 +15,7 @@ ghost use Rattle.plain_commands.specs.WrittenOrders.{IsTextOf, is_answer_wanted,
 ghost use Rattle.plain_commands.specs.WrittenOrders.{stuck_asked, stuck_told, HasPutOrder, IsScriptRefusal};
 ghost use Rattle.schedules.specs.Schedules.{IsScheduleOf};
 
+use crate::drawn_orders::found_picture;
 use crate::schedule::schedule_of;
 use crate::settling::settling;
 use crate::written_stories::story_text;
@@ -160,8 +161,8 @@ pub(crate) fn is_answer_wanted(command: &OutcomesCommand<'_>) -> bool
     command.written().is_some() && command.outcome.is_none() && !command.stuck
 }
 
-/// Puts an order into the file, if there is one: as it is, as its script, or as its story; `line` is as `line_wanted`
-/// answers it.
+/// Puts an order into the file, if there is one: as it is, as its script, as its story, or as a picture of that; `line`
+/// is as `line_wanted` answers it.
 pub(crate) fn put_order<S: EndFiles>(
     image: &Image,
     settings: &Settings,
@@ -203,7 +204,7 @@ pub(crate) fn put_order<S: EndFiles>(
     }
 }
 
-/// The text of an order, or of its script or its story where that is wanted.
+/// The text of an order, or of its script, its story or a picture of that, where it is wanted.
 fn text_of(
     image: &Image,
     settings: &Settings,
@@ -223,6 +224,9 @@ fn text_of(
     }
     if command.story.is_some() {
         return story_text(image, settings, order, line, form, alloc);
+    }
+    if command.story_svg.is_some() {
+        return found_picture(image, settings, order, line, form, command.theme, alloc);
     }
     order_text(order, alloc)
 }

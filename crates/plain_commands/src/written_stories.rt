@@ -103,6 +103,26 @@ pub(crate) fn story_text(
     }
 }
 
+/// What stands behind the story of an order.
+pub(crate) fn closing_of(
+    image: &Image,
+    harts: u8,
+    order: &[u8],
+    line: &Option<Vec<u8>>,
+    names: &Symbols<'_>,
+    alloc: Global,
+) -> Result<Vec<u8>, Refused>
+    ensures text { IfOk result (λ text. OfEachSetup image.now harts (λ setup. text.items
+        ≡ closing_text (table_of names.now) setup order.now (option_map (λ it. it.items) line.now))) }
+    ensures refused { IfErr result (IsMachineRefusal image.now harts order.now) }
+{
+    let mut text = Vec::new(alloc);
+    match write_closing(image, harts, order, line, names, &mut text, alloc) {
+        Ok(()) => Ok(text),
+        Err(refused) => Err(refused),
+    }
+}
+
 /// Writes what stands behind the story of an order.
 fn write_closing(
     image: &Image,

@@ -41,6 +41,7 @@ fn kind_of(part: Part) -> &'static str {
     match part {
         Part::Trace => "trace",
         Part::Order => "order",
+        Part::Story => "story",
     }
 }
 

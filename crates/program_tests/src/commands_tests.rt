@@ -1,7 +1,7 @@
 //! Whole lines of the program: what each command prints and how it ends. Beside the modules of the
 //! commands stand what is owed of each ask of a script (`script_lines`), traces that are written
-//! (`trace_files`), which loads look again (`looks`), inputs that are refused (`refusals`), and actors
-//! that work side by side (`meeting`).
+//! (`trace_files`), which loads look again (`looks`), the story of a core (`stories_of_cores`), inputs
+//! that are refused (`refusals`), and actors that work side by side (`meeting`).
 
 mod chart;
 mod check;
@@ -19,6 +19,7 @@ mod script;
 mod script_lines;
 mod script_rows;
 mod step;
+mod stories_of_cores;
 mod stress;
 mod trace_files;
 

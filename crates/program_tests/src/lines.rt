@@ -3,7 +3,7 @@
 use sim_inputs::{
     Beside, ChartCommand, ChartEnd, CheckCommand, Command, ExplainCommand, HintsWanted, Line,
     ListCommand, LitmusCommand, MigrateCommand, OutcomesCommand, PlainCommand, ProgramCommand,
-    RunCommand, ScheduleCommand, ScriptCommand, StepCommand,
+    QuestionText, RunCommand, ScheduleCommand, ScriptCommand, StepCommand,
 };
 
 macro_rules! line {
@@ -36,6 +36,8 @@ pub fn step_line(records: bool, show: bool, trace: Option<&'static str>) -> Line
         names: false,
         records,
         show,
+        story: false,
+        all: false,
         why: false,
     },))
 }
@@ -53,6 +55,43 @@ pub fn looks_line() -> Line<'static> {
         names: false,
         records: false,
         show: false,
+        story: false,
+        all: false,
+        why: false,
+    },))
+}
+
+/// A script that is run, to tell its story.
+pub fn step_story_line() -> Line<'static> {
+    program_line!(ProgramCommand::Step(StepCommand {
+        image: "image",
+        script: "script",
+        trace: None,
+        counts: false,
+        json: false,
+        looks: false,
+        lines: None,
+        names: false,
+        records: false,
+        show: false,
+        story: true,
+        all: false,
+        why: false,
+    },))
+}
+
+/// A trace that is checked, to tell each step of its story.
+pub fn check_story_line() -> Line<'static> {
+    program_line!(ProgramCommand::Check(CheckCommand {
+        image: "image",
+        trace: "trace",
+        counts: false,
+        json: false,
+        lines: None,
+        names: false,
+        records: true,
+        story: true,
+        all: true,
         why: false,
     },))
 }
@@ -69,12 +108,18 @@ pub fn run_line(records: bool, trace: Option<&'static str>) -> Line<'static> {
         records,
         why: false,
         times: None,
+        watch: None,
+        question: None,
         keep: None,
     },))
 }
 
-/// A line that makes so many runs, whose ends are kept.
-pub fn stress_line(times: u32) -> Line<'static> {
+/// A line that makes so many runs, whose ends are kept, and of which this is watched and asked.
+pub fn stress_line(
+    times: u32,
+    watch: Option<&'static str>,
+    question: Option<QuestionText<'static>>,
+) -> Line<'static> {
     program_line!(ProgramCommand::Run(RunCommand {
         image: "image",
         trace: None,
@@ -85,6 +130,8 @@ pub fn stress_line(times: u32) -> Line<'static> {
         records: false,
         why: false,
         times: Some(times),
+        watch,
+        question,
         keep: Some("kept"),
     },))
 }
@@ -99,6 +146,8 @@ pub fn check_line(records: bool) -> Line<'static> {
         lines: None,
         names: false,
         records,
+        story: false,
+        all: false,
         why: false,
     },))
 }
@@ -123,6 +172,8 @@ pub fn plain_line(records: bool) -> Line<'static> {
         names: false,
         records,
         story: false,
+        story_svg: None,
+        theme: None,
         all: false,
     },))
 }
@@ -190,6 +241,8 @@ pub fn outcomes_line(states: u32) -> Line<'static> {
         witness: None,
         script: None,
         story: None,
+        story_svg: None,
+        theme: None,
         all: false,
         lines: None,
     },))

@@ -13,6 +13,7 @@ use sim_inputs::{
     QuestionText, RunCommand, ScheduleCommand, ScriptCommand, StepCommand, read_words,
 };
 use std::alloc::{AllocError, Global};
+use story_pictures::Theme;
 
 /// The words of a text: a space stands between two.
 fn words_of(text: &str, alloc: Global) -> Result<Vec<&str>, AllocError> {
@@ -24,7 +25,7 @@ fn words_of(text: &str, alloc: Global) -> Result<Vec<&str>, AllocError> {
 }
 
 /// Words, and what they ask for.
-const LINES: [(&str, Line<'_>); 43] = [
+const LINES: [(&str, Line<'_>); 21] = [
     (
         "smtsim chart a t",
         Line {
@@ -80,6 +81,8 @@ const LINES: [(&str, Line<'_>); 43] = [
                 names: false,
                 records: false,
                 show: false,
+                story: false,
+                all: false,
                 why: false,
             })),
         },
@@ -101,6 +104,8 @@ const LINES: [(&str, Line<'_>); 43] = [
                 names: false,
                 records: false,
                 show: false,
+                story: false,
+                all: false,
                 why: false,
             })),
         },
@@ -122,6 +127,8 @@ const LINES: [(&str, Line<'_>); 43] = [
                 names: false,
                 records: false,
                 show: false,
+                story: false,
+                all: false,
                 why: false,
             })),
         },
@@ -143,6 +150,8 @@ const LINES: [(&str, Line<'_>); 43] = [
                 names: false,
                 records: true,
                 show: false,
+                story: false,
+                all: false,
                 why: false,
             })),
         },
@@ -164,6 +173,8 @@ const LINES: [(&str, Line<'_>); 43] = [
                 names: false,
                 records: false,
                 show: true,
+                story: false,
+                all: false,
                 why: false,
             })),
         },
@@ -185,6 +196,8 @@ const LINES: [(&str, Line<'_>); 43] = [
                 names: false,
                 records: false,
                 show: false,
+                story: false,
+                all: false,
                 why: false,
             })),
         },
@@ -206,6 +219,8 @@ const LINES: [(&str, Line<'_>); 43] = [
                 names: false,
                 records: true,
                 show: true,
+                story: false,
+                all: false,
                 why: false,
             })),
         },
@@ -227,6 +242,8 @@ const LINES: [(&str, Line<'_>); 43] = [
                 names: false,
                 records: false,
                 show: false,
+                story: false,
+                all: false,
                 why: false,
             })),
         },
@@ -247,6 +264,8 @@ const LINES: [(&str, Line<'_>); 43] = [
                 records: false,
                 why: false,
                 times: None,
+                watch: None,
+                question: None,
                 keep: None,
             })),
         },
@@ -267,6 +286,8 @@ const LINES: [(&str, Line<'_>); 43] = [
                 records: true,
                 why: false,
                 times: None,
+                watch: None,
+                question: None,
                 keep: None,
             })),
         },
@@ -287,6 +308,8 @@ const LINES: [(&str, Line<'_>); 43] = [
                 records: false,
                 why: false,
                 times: None,
+                watch: None,
+                question: None,
                 keep: None,
             })),
         },
@@ -305,6 +328,8 @@ const LINES: [(&str, Line<'_>); 43] = [
                 lines: None,
                 names: false,
                 records: false,
+                story: false,
+                all: false,
                 why: false,
             })),
         },
@@ -323,6 +348,8 @@ const LINES: [(&str, Line<'_>); 43] = [
                 lines: None,
                 names: false,
                 records: true,
+                story: false,
+                all: false,
                 why: false,
             })),
         },
@@ -343,12 +370,14 @@ const LINES: [(&str, Line<'_>); 43] = [
                 names: false,
                 records: false,
                 story: false,
+                story_svg: None,
+                theme: None,
                 all: false,
             })),
         },
     ),
     (
-        "smtsim plain --config c a --records b",
+        "smtsim plain --config c a --records b --story-svg p --theme dark",
         Line {
             config: Some("c"),
             harts: None,
@@ -363,6 +392,8 @@ const LINES: [(&str, Line<'_>); 43] = [
                 names: false,
                 records: true,
                 story: false,
+                story_svg: Some("p"),
+                theme: Some(Theme::Dark),
                 all: false,
             })),
         },
@@ -415,6 +446,10 @@ const LINES: [(&str, Line<'_>); 43] = [
             })),
         },
     ),
+];
+
+/// Of other commands and options.
+const OTHER_LINES: [(&str, Line<'_>); 25] = [
     (
         "smtsim list list.elf",
         Line {
@@ -442,7 +477,7 @@ const LINES: [(&str, Line<'_>); 43] = [
         },
     ),
     (
-        "smtsim run --times 1000000 a --keep=f",
+        "smtsim run --times 1000000 --watch a0@1,counter a --exists h0=1 --keep=f",
         Line {
             config: None,
             harts: None,
@@ -457,6 +492,8 @@ const LINES: [(&str, Line<'_>); 43] = [
                 records: false,
                 why: false,
                 times: Some(1_000_000),
+                watch: Some("a0@1,counter"),
+                question: Some(QuestionText::Exists("h0=1")),
                 keep: Some("f"),
             })),
         },
@@ -477,6 +514,8 @@ const LINES: [(&str, Line<'_>); 43] = [
                 records: false,
                 why: true,
                 times: None,
+                watch: None,
+                question: None,
                 keep: None,
             })),
         },
@@ -495,7 +534,52 @@ const LINES: [(&str, Line<'_>); 43] = [
                 lines: None,
                 names: false,
                 records: false,
+                story: false,
+                all: false,
                 why: true,
+            })),
+        },
+    ),
+    (
+        "smtsim check --story a t --all",
+        Line {
+            config: None,
+            harts: None,
+            hints: HintsWanted::Auto,
+            command: Command::OfProgram(ProgramCommand::Check(CheckCommand {
+                image: "a",
+                trace: "t",
+                counts: false,
+                json: false,
+                lines: None,
+                names: false,
+                records: false,
+                story: true,
+                all: true,
+                why: false,
+            })),
+        },
+    ),
+    (
+        "smtsim step a --story b",
+        Line {
+            config: None,
+            harts: None,
+            hints: HintsWanted::Auto,
+            command: Command::OfProgram(ProgramCommand::Step(StepCommand {
+                image: "a",
+                script: "b",
+                trace: None,
+                counts: false,
+                json: false,
+                looks: false,
+                lines: None,
+                names: false,
+                records: false,
+                show: false,
+                story: true,
+                all: false,
+                why: false,
             })),
         },
     ),
@@ -516,6 +600,8 @@ const LINES: [(&str, Line<'_>); 43] = [
                 names: false,
                 records: false,
                 show: false,
+                story: false,
+                all: false,
                 why: false,
             })),
         },
@@ -536,6 +622,8 @@ const LINES: [(&str, Line<'_>); 43] = [
                 names: false,
                 records: false,
                 story: false,
+                story_svg: None,
+                theme: None,
                 all: false,
             })),
         },
@@ -556,6 +644,8 @@ const LINES: [(&str, Line<'_>); 43] = [
                 names: false,
                 records: true,
                 story: false,
+                story_svg: None,
+                theme: None,
                 all: false,
             })),
         },
@@ -625,6 +715,8 @@ const LINES: [(&str, Line<'_>); 43] = [
                 witness: None,
                 script: None,
                 story: None,
+                story_svg: None,
+                theme: None,
                 all: false,
                 lines: None,
             })),
@@ -647,6 +739,8 @@ const LINES: [(&str, Line<'_>); 43] = [
                 witness: Some("w"),
                 script: None,
                 story: None,
+                story_svg: None,
+                theme: None,
                 all: false,
                 lines: None,
             })),
@@ -669,7 +763,33 @@ const LINES: [(&str, Line<'_>); 43] = [
                 witness: None,
                 script: None,
                 story: Some("t"),
+                story_svg: None,
+                theme: None,
                 all: true,
+                lines: Some("l"),
+            })),
+        },
+    ),
+    (
+        "smtsim outcomes a --theme=auto --never-stuck --story-svg p --lines l",
+        Line {
+            config: None,
+            harts: None,
+            hints: HintsWanted::Auto,
+            command: Command::OfProgram(ProgramCommand::Outcomes(OutcomesCommand {
+                image: "a",
+                states: 1_000_000,
+                watch: None,
+                question: Some(QuestionText::NeverStuck),
+                first: false,
+                outcome: None,
+                stuck: false,
+                witness: None,
+                script: None,
+                story: None,
+                story_svg: Some("p"),
+                theme: Some(Theme::Automatic),
+                all: false,
                 lines: Some("l"),
             })),
         },
@@ -691,6 +811,8 @@ const LINES: [(&str, Line<'_>); 43] = [
                 witness: Some("w"),
                 script: None,
                 story: None,
+                story_svg: None,
+                theme: None,
                 all: false,
                 lines: None,
             })),
@@ -713,6 +835,8 @@ const LINES: [(&str, Line<'_>); 43] = [
                 witness: None,
                 script: Some("s"),
                 story: None,
+                story_svg: None,
+                theme: None,
                 all: false,
                 lines: None,
             })),
@@ -917,9 +1041,12 @@ fn exists_in<'a>(question: Option<QuestionText<'a>>) -> Option<&'a str> {
     }
 }
 
-/// The texts of a line that asks for outcomes, and whether its file is a script.
+/// The texts of a line that asks for runs or outcomes, and whether its file is a script.
 fn texts_of<'a>(line: &Line<'a>) -> (Option<&'a str>, Option<&'a str>, bool) {
     match line.command {
+        Command::OfProgram(ProgramCommand::Run(run)) => {
+            (run.watch, exists_in(run.question), false)
+        }
         Command::OfProgram(ProgramCommand::Outcomes(outcomes)) => {
             (
                 outcomes.watch,
@@ -931,6 +1058,21 @@ fn texts_of<'a>(line: &Line<'a>) -> (Option<&'a str>, Option<&'a str>, bool) {
     }
 }
 
+/// The colours that a line asks for.
+fn theme_of(line: &Line<'_>) -> &'static str {
+    let theme = match line.command {
+        Command::OfProgram(ProgramCommand::Plain(plain)) => plain.theme,
+        Command::OfProgram(ProgramCommand::Outcomes(outcomes)) => outcomes.theme,
+        _ => None,
+    };
+    match theme {
+        Some(Theme::Automatic) => "auto",
+        Some(Theme::Light) => "light",
+        Some(Theme::Dark) => "dark",
+        None => "",
+    }
+}
+
 /// Whether two lines have the same command, files and flags.
 fn is_same(read: &Line<'_>, line: &Line<'_>) -> bool {
     files_of(read) == files_of(line)
@@ -939,6 +1081,7 @@ fn is_same(read: &Line<'_>, line: &Line<'_>) -> bool {
         && numbers_of(read) == numbers_of(line)
         && view_of(read) == view_of(line)
         && texts_of(read) == texts_of(line)
+        && theme_of(read) == theme_of(line)
 }
 
 /// Whether words ask for this, where there is memory for them.
@@ -953,6 +1096,13 @@ fn asks(text: &str, line: &Line<'_>, alloc: Global) -> Result<bool, AllocError> 
 #[test]
 fn each_line_is_read_with_its_files_and_options(rt: HostRuntime) {
     for (text, line) in &LINES {
+        holds(&rt, text, asks(text, line, rt.alloc()) == Ok(true));
+    }
+}
+
+#[test]
+fn each_other_line_is_read_with_its_files_and_options(rt: HostRuntime) {
+    for (text, line) in &OTHER_LINES {
         holds(&rt, text, asks(text, line, rt.alloc()) == Ok(true));
     }
 }
@@ -994,6 +1144,8 @@ const NAMED: [(Line<'_>, Named<'_>); 14] = [
                 names: false,
                 records: true,
                 show: true,
+                story: false,
+                all: false,
                 why: false,
             })),
         },
@@ -1014,6 +1166,8 @@ const NAMED: [(Line<'_>, Named<'_>); 14] = [
                 records: true,
                 why: false,
                 times: None,
+                watch: None,
+                question: None,
                 keep: None,
             })),
         },
@@ -1032,6 +1186,8 @@ const NAMED: [(Line<'_>, Named<'_>); 14] = [
                 lines: None,
                 names: false,
                 records: true,
+                story: false,
+                all: false,
                 why: false,
             })),
         },
@@ -1052,6 +1208,8 @@ const NAMED: [(Line<'_>, Named<'_>); 14] = [
                 names: false,
                 records: false,
                 story: false,
+                story_svg: None,
+                theme: None,
                 all: false,
             })),
         },
@@ -1122,6 +1280,8 @@ const NAMED: [(Line<'_>, Named<'_>); 14] = [
                 witness: Some("w"),
                 script: None,
                 story: None,
+                story_svg: None,
+                theme: None,
                 all: false,
                 lines: None,
             })),
@@ -1144,6 +1304,8 @@ const NAMED: [(Line<'_>, Named<'_>); 14] = [
                 witness: None,
                 script: Some("s"),
                 story: None,
+                story_svg: None,
+                theme: None,
                 all: false,
                 lines: None,
             })),

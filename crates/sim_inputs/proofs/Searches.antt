@@ -9,6 +9,7 @@ use Rattle.sim_inputs.specs.CommandLine.{usual_states, most_states}
 use Rattle.sim_inputs.specs.CommandLine.{are_orders_together, can_be_searched, has_no_file, has_one_file}
 use Rattle.sim_inputs.specs.declared.line.{OutcomesCommand.OutcomesCommand, QuestionText.QuestionText}
 use Rattle.sim_inputs.specs.declared.line.QuestionText.TheVariants as question
+use Rattle.sim_inputs.specs.Themes.{theme_in}
 use Rattle.sim_inputs.proofs.Charts.{some_alike}
 
 -- what the options ask for, whether they go together or not
@@ -21,6 +22,8 @@ pub record AsksOutcomes (rows : List Row) (outcomes : OutcomesCommand) : Type 0 
   pub witness : first_of (codes "witness") rows ≡ option_map (λ f. f.now) outcomes.witness
   pub script : first_of (codes "script") rows ≡ option_map (λ f. f.now) outcomes.script
   pub story : first_of (codes "story") rows ≡ option_map (λ f. f.now) outcomes.story
+  pub story_svg : first_of (codes "story-svg") rows ≡ option_map (λ f. f.now) outcomes.story_svg
+  pub theme : theme_in (first_of (codes "theme") rows) ≡ Some outcomes.theme
   pub all : is_flag_set (codes "all") rows ≡ outcomes.all
   pub lines : first_of (codes "lines") rows ≡ option_map (λ f. f.now) outcomes.lines
 
@@ -34,6 +37,8 @@ asked_so rows outcomes is = record {
   witness = is.witness;
   script = is.script;
   story = is.story;
+  story_svg = is.story_svg;
+  theme = is.theme;
   all = is.all;
   lines = is.lines;
 }
@@ -72,12 +77,15 @@ searched_alike rows a b one two =
     some_alike a.witness b.witness (sym one.witness ∙ two.witness) in
     let script : is_some a.script ≡ is_some b.script = some_alike a.script b.script (sym one.script ∙ two.script) in
     let story : is_some a.story ≡ is_some b.story = some_alike a.story b.story (sym one.story ∙ two.story) in
+    let drawn : is_some a.story_svg ≡ is_some b.story_svg =
+    some_alike a.story_svg b.story_svg (sym one.story_svg ∙ two.story_svg) in
+    let theme : a.theme ≡ b.theme = same_Some _ _ (sym one.theme ∙ two.theme) in
     let lines : is_some a.lines ≡ is_some b.lines = some_alike a.lines b.lines (sym one.lines ∙ two.lines) in
     let asked : is_some a.question ≡ is_some b.question =
     asks_at_all rows a.question one.question ∙ sym (asks_at_all rows b.question two.question) in
     let condition : has_condition a.question ≡ has_condition b.question =
     asks_conditions rows a.question one.question ∙ sym (asks_conditions rows b.question two.question) in
-    rw (states, outcome, stuck, first, every, witness, script, story, lines, asked, condition) refl
+    rw (states, outcome, stuck, first, every, witness, script, story, drawn, theme, lines, asked, condition) refl
 
 -- options that don't go together ask for no search
 pub no_search : (rows : List Row) (a : OutcomesCommand) → AsksOutcomes rows a → can_be_searched a ≡ false

@@ -26,9 +26,11 @@ written_text name rows =
     else (if bytes_eq name (codes "chart") then either (first_of (codes "svg") rows) (first_of (codes "kanata") rows)
     else (if bytes_eq name (codes "outcomes")
     then either (first_of (codes "witness") rows)
-    (either (first_of (codes "script") rows) (first_of (codes "story") rows))
+    (either (first_of (codes "script") rows)
+    (either (first_of (codes "story") rows) (first_of (codes "story-svg") rows)))
     else (if bytes_eq name (codes "litmus") then either (first_of (codes "image") rows) (first_of (codes "svg") rows)
-    else (if bytes_eq name (codes "migrate") then first_of (codes "OUT") rows else None)))))
+    else (if bytes_eq name (codes "migrate") then first_of (codes "OUT") rows
+    else (if bytes_eq name (codes "plain") then first_of (codes "story-svg") rows else None))))))
 
 either_text : (a b : Option (Bor Text)) (first second : Option Text) → first ≡ text_of a → second ≡ text_of b
     → text_of (if is_some a then a else b) ≡ either first second
@@ -40,14 +42,15 @@ written_is : (name : Text) (rows : List Row) (config : Option (Bor Text)) (comma
 written_is name rows config (commands.OfProgram (program.Step step)) is = rw is.0 (sym is.1.trace)
 written_is name rows config (commands.OfProgram (program.Run run)) is = rw is.0 (sym is.1.trace)
 written_is name rows config (commands.OfProgram (program.Check check)) is = rw is.0 refl
-written_is name rows config (commands.OfProgram (program.Plain plain)) is = rw is.0 refl
+written_is name rows config (commands.OfProgram (program.Plain plain)) is = rw is.0 (sym is.1.story_svg)
 written_is name rows config (commands.OfProgram (program.Schedule schedule)) is = rw is.0 refl
 written_is name rows config (commands.OfProgram (program.Script script)) is = rw is.0 refl
 written_is name rows config (commands.OfProgram (program.List list)) is = rw is.0 refl
 written_is name rows config (commands.OfProgram (program.Chart chart)) is =
     rw is.0 (either_text chart.svg chart.kanata _ _ is.1.svg is.1.kanata)
 written_is name rows config (commands.OfProgram (program.Outcomes outcomes)) is =
-    let behind = either_text outcomes.script outcomes.story _ _ is.1.script is.1.story in
+    let last = either_text outcomes.story outcomes.story_svg _ _ is.1.story is.1.story_svg in
+    let behind = either_text outcomes.script _ _ _ is.1.script (sym last) in
     rw is.0 (either_text outcomes.witness _ _ _ is.1.witness (sym behind))
 written_is name rows config (commands.Explain explain) is = rw is.0 refl
 written_is name rows config (commands.Litmus litmus) is =

@@ -39,6 +39,8 @@ use Rattle.sim_inputs.specs.ChartEnds.{do_ends_rise, IsEndOf}
 use Rattle.sim_inputs.specs.Rules.{smtsim}
 use Rattle.sim_inputs.specs.Files.{is_standard_input, reads_input_once, writes_no_dash}
 use Rattle.sim_inputs.specs.HintsWanted.{hints_in}
+use Rattle.sim_inputs.specs.Themes.{can_be_themed, theme_in}
+use Rattle.story_pictures.specs.declared.form.Theme.{Theme}
 
 -- The last event that a history may have; the last hart that a core may have; how often a program is
 -- run at the most; the most instructions of a turn and of all rounds, and the last seed; and how many
@@ -95,6 +97,10 @@ IsFile rows name file = first_of name rows ≡ Some file.now
 abbrev IsFileOption : List Row → Text → Option (Bor Text) → Type 0
 IsFileOption rows name file = first_of name rows ≡ option_map (λ f. f.now) file
 
+-- The colours of a picture, if some were given.
+abbrev IsTheme : List Row → Option Theme → Type 0
+IsTheme rows theme = theme_in (first_of (codes "theme") rows) ≡ Some theme
+
 -- What was found for a flag.
 abbrev IsFlag : List Row → Text → Bool → Type 0
 IsFlag rows name flag = is_flag_set name rows ≡ flag
@@ -120,6 +126,10 @@ pub record AreHarts (rows : List Row) (harts : Option ℕ) : Type 0 where
   pub found : IsNumberOption rows (codes "harts") most_harts harts
   pub some : option_map_or (λ count. nat_le 1 count) harts true ≡ true
 
+-- What says more of a story is there with one alone.
+abbrev pub can_be_told : Bool → Bool → Bool
+can_be_told story all = story || not all
+
 -- What was found for a subcommand's arguments and options is the command.
 pub record IsStep (rows : List Row) (step : StepCommand) : Type 0 where
   pub image : IsFile rows (codes "IMAGE") step.image
@@ -132,10 +142,27 @@ pub record IsStep (rows : List Row) (step : StepCommand) : Type 0 where
   pub names : IsFlag rows (codes "names") step.names
   pub records : IsFlag rows (codes "records") step.records
   pub show : IsFlag rows (codes "show") step.show
+  pub story : IsFlag rows (codes "story") step.story
+  pub all : IsFlag rows (codes "all") step.all
   pub why : IsFlag rows (codes "why") step.why
+  pub together : can_be_told step.story step.all ≡ true
+
+-- What is asked of outcomes, or of many runs: one question, or none.
+pub record IsAskedAlone (rows : List Row) (exists forall never : Option Text) (never_stuck : Bool) : Type 0 where
+  pub has_exists : first_of (codes "exists") rows ≡ exists
+  pub has_forall : first_of (codes "forall") rows ≡ forall
+  pub has_never : first_of (codes "never") rows ≡ never
+  pub has_never_stuck : is_flag_set (codes "never-stuck") rows ≡ never_stuck
+
+abbrev pub IsQuestion : List Row → Option QuestionText → Type 0
+IsQuestion rows None = IsAskedAlone rows None None None false
+IsQuestion rows (Some (question.Exists text)) = IsAskedAlone rows (Some text.now) None None false
+IsQuestion rows (Some (question.ForAll text)) = IsAskedAlone rows None (Some text.now) None false
+IsQuestion rows (Some (question.Never text)) = IsAskedAlone rows None None (Some text.now) false
+IsQuestion rows (Some question.NeverStuck) = IsAskedAlone rows None None None true
 
 -- A run has an option of its report. Many runs have none, and a folder of theirs has a name, which is no dash; there
--- is one at least, and one alone has no folder.
+-- is one at least, and one alone has no folder, and nothing of it is watched or asked.
 abbrev pub is_reported : RunCommand → Bool
 is_reported run = is_some run.trace || run.counts || run.json || is_some run.lines || run.names || run.records || run.why
 
@@ -144,7 +171,7 @@ has_named_folder run =
     option_map_or (λ folder. not (length folder.now == 0) && not (is_standard_input folder.now)) run.keep true
 
 abbrev pub can_be_run : RunCommand → Bool
-can_be_run run = let once = not (is_some run.keep) in
+can_be_run run = let once = not (is_some run.keep) && not (is_some run.watch) && not (is_some run.question) in
     option_map_or (λ times. nat_le 1 times && not (is_reported run) && has_named_folder run) run.times once
 
 pub record IsRun (rows : List Row) (run : RunCommand) : Type 0 where
@@ -157,6 +184,8 @@ pub record IsRun (rows : List Row) (run : RunCommand) : Type 0 where
   pub records : IsFlag rows (codes "records") run.records
   pub why : IsFlag rows (codes "why") run.why
   pub times : IsNumberOption rows (codes "times") most_times run.times
+  pub watch : IsFileOption rows (codes "watch") run.watch
+  pub question : IsQuestion rows run.question
   pub keep : IsFileOption rows (codes "keep") run.keep
   pub together : can_be_run run ≡ true
 
@@ -168,16 +197,22 @@ pub record IsCheck (rows : List Row) (check : CheckCommand) : Type 0 where
   pub lines : IsFileOption rows (codes "lines") check.lines
   pub names : IsFlag rows (codes "names") check.names
   pub records : IsFlag rows (codes "records") check.records
+  pub story : IsFlag rows (codes "story") check.story
+  pub all : IsFlag rows (codes "all") check.all
   pub why : IsFlag rows (codes "why") check.why
+  pub together : can_be_told check.story check.all ≡ true
 
 -- There is either an order or rounds, of an instruction at least, and what says more of rounds is there
--- with them alone; a story is there with an order alone, and what says more of a story with one alone.
+-- with them alone; a story, told or drawn, is there with an order alone, what tells more with one that is told, and colours with a picture.
+abbrev pub shows_story : PlainCommand → Bool
+shows_story plain = plain.story || is_some plain.story_svg
+
 abbrev pub can_be_plain : PlainCommand → Bool
 can_be_plain plain =
-    let told = plain.story || not plain.all in
+    let told = can_be_told plain.story plain.all && can_be_themed (is_some plain.story_svg) (is_some plain.theme) in
     let ordered = is_some plain.order && (not (is_some plain.steps) && (not (is_some plain.seed) && told)) in
-    option_map_or (λ rounds. nat_le 1 rounds && (not (is_some plain.order) && (not plain.story && told))) plain.rounds
-    ordered
+    option_map_or (λ rounds. nat_le 1 rounds && (not (is_some plain.order) && (not (shows_story plain) && told)))
+    plain.rounds ordered
 
 pub record IsPlain (rows : List Row) (plain : PlainCommand) : Type 0 where
   pub image : IsFile rows (codes "IMAGE") plain.image
@@ -189,6 +224,8 @@ pub record IsPlain (rows : List Row) (plain : PlainCommand) : Type 0 where
   pub names : IsFlag rows (codes "names") plain.names
   pub records : IsFlag rows (codes "records") plain.records
   pub story : IsFlag rows (codes "story") plain.story
+  pub story_svg : IsFileOption rows (codes "story-svg") plain.story_svg
+  pub theme : IsTheme rows plain.theme
   pub all : IsFlag rows (codes "all") plain.all
   pub together : can_be_plain plain ≡ true
 
@@ -247,34 +284,28 @@ pub record IsExplain (rows : List Row) (explain : ExplainCommand) : Type 0 where
   pub image : IsFile rows (codes "IMAGE") explain.image
   pub beside : IsBeside rows explain.beside
 
--- What is asked of outcomes: one question, or none.
-pub record IsAskedAlone (rows : List Row) (exists forall never : Option Text) (never_stuck : Bool) : Type 0 where
-  pub has_exists : first_of (codes "exists") rows ≡ exists
-  pub has_forall : first_of (codes "forall") rows ≡ forall
-  pub has_never : first_of (codes "never") rows ≡ never
-  pub has_never_stuck : is_flag_set (codes "never-stuck") rows ≡ never_stuck
-
-abbrev pub IsQuestion : List Row → Option QuestionText → Type 0
-IsQuestion rows None = IsAskedAlone rows None None None false
-IsQuestion rows (Some (question.Exists text)) = IsAskedAlone rows (Some text.now) None None false
-IsQuestion rows (Some (question.ForAll text)) = IsAskedAlone rows None (Some text.now) None false
-IsQuestion rows (Some (question.Never text)) = IsAskedAlone rows None None (Some text.now) false
-IsQuestion rows (Some question.NeverStuck) = IsAskedAlone rows None None None true
-
+-- A question is asked that has a condition.
 abbrev pub has_condition : Option QuestionText → Bool
 has_condition None = false
 has_condition (Some question.NeverStuck) = false
 has_condition (Some other) = true
 
--- An order has one file, as it is, as its script or as its story; or it has none.
+-- An order has one file, as it is, as its script, as its story or as a picture of that; or it has none.
+abbrev pub has_story : OutcomesCommand → Bool
+has_story outcomes = is_some outcomes.story || is_some outcomes.story_svg
+
+abbrev pub has_one_story : OutcomesCommand → Bool
+has_one_story outcomes =
+    if is_some outcomes.story then not (is_some outcomes.story_svg) else is_some outcomes.story_svg
+
 abbrev pub has_one_file : OutcomesCommand → Bool
 has_one_file outcomes =
-    if is_some outcomes.witness then not (is_some outcomes.script) && not (is_some outcomes.story)
-    else (if is_some outcomes.script then not (is_some outcomes.story) else is_some outcomes.story)
+    if is_some outcomes.witness then not (is_some outcomes.script) && not (has_story outcomes)
+    else (if is_some outcomes.script then not (has_story outcomes) else has_one_story outcomes)
 
 abbrev pub has_no_file : OutcomesCommand → Bool
 has_no_file outcomes =
-    not (is_some outcomes.witness) && not (is_some outcomes.script) && not (is_some outcomes.story)
+    not (is_some outcomes.witness) && not (is_some outcomes.script) && not (has_story outcomes)
 
 -- Some state is looked at. An order is written of an outcome, from 1, or of a state that is stuck, and
 -- of one of them alone; or of what answers the question.
@@ -286,11 +317,17 @@ are_orders_together outcomes =
     option_map_or (λ number. nat_le 1 number && not outcomes.stuck && has_one_file outcomes)
     outcomes.outcome without
 
--- The search ends at the first answer where a condition is asked; what a story shows is said of a story.
+-- What a story shows beside its rows is said of a story; each step has a row in one that is told, not drawn.
+abbrev pub are_stories_together : OutcomesCommand → Bool
+are_stories_together outcomes = is_some outcomes.story
+    || (not outcomes.all && (is_some outcomes.story_svg || not (is_some outcomes.lines)))
+
+-- The search ends at the first answer where a condition is asked; and a picture alone has colours.
 abbrev pub can_be_searched : OutcomesCommand → Bool
 can_be_searched outcomes = nat_le 1 outcomes.states && are_orders_together outcomes
     && (not outcomes.first || has_condition outcomes.question)
-    && (is_some outcomes.story || (not outcomes.all && not (is_some outcomes.lines)))
+    && are_stories_together outcomes
+    && can_be_themed (is_some outcomes.story_svg) (is_some outcomes.theme)
 
 pub record IsOutcomes (rows : List Row) (outcomes : OutcomesCommand) : Type 0 where
   pub image : IsFile rows (codes "IMAGE") outcomes.image
@@ -303,6 +340,8 @@ pub record IsOutcomes (rows : List Row) (outcomes : OutcomesCommand) : Type 0 wh
   pub witness : IsFileOption rows (codes "witness") outcomes.witness
   pub script : IsFileOption rows (codes "script") outcomes.script
   pub story : IsFileOption rows (codes "story") outcomes.story
+  pub story_svg : IsFileOption rows (codes "story-svg") outcomes.story_svg
+  pub theme : IsTheme rows outcomes.theme
   pub all : IsFlag rows (codes "all") outcomes.all
   pub lines : IsFileOption rows (codes "lines") outcomes.lines
   pub together : can_be_searched outcomes ≡ true

@@ -17,10 +17,11 @@ use Rattle.sim_inputs.specs.declared.line.ProgramCommand.TheVariants as program
 abbrev pub written_chart : ChartCommand → Option (Bor (List ℕ))
 written_chart chart = if is_some chart.svg then chart.svg else chart.kanata
 
--- The file that an order is written to, or its script, or its story.
+-- The file that an order is written to, or its script, or its story, or a picture of that.
 abbrev pub written_order : OutcomesCommand → Option (Bor (List ℕ))
 written_order outcomes = if is_some outcomes.witness then outcomes.witness
-    else (if is_some outcomes.script then outcomes.script else outcomes.story)
+    else (if is_some outcomes.script then outcomes.script
+    else (if is_some outcomes.story then outcomes.story else outcomes.story_svg))
 
 -- The file that a test's image is written to, or the picture of why it can't end so.
 abbrev pub written_for_test : LitmusCommand → Option (Bor (List ℕ))
@@ -82,12 +83,12 @@ shows_names (program.List list) = list.names
 shows_names (program.Chart chart) = chart.names
 shows_names (program.Outcomes outcomes) = false
 
--- The file that it writes: the trace of a core, a chart, an order or its script.
+-- The file that it writes: the trace of a core, a chart, an order, its script or its story, or a picture of that.
 abbrev written_by : ProgramCommand → Option (Bor (List ℕ))
 written_by (program.Step step) = step.trace
 written_by (program.Run run) = run.trace
 written_by (program.Check check) = None
-written_by (program.Plain plain) = None
+written_by (program.Plain plain) = plain.story_svg
 written_by (program.Schedule schedule) = None
 written_by (program.Script script) = None
 written_by (program.List list) = None
@@ -130,7 +131,7 @@ files_with config (commands.Migrate migrate) = record {
 
 -- The configuration, the image or the litmus test, the file that is read beside them (the script, the
 -- trace that is read, or the order), the source lines, and the file that is written: the trace of a core or of a
--- migration, a chart, an order or its script, or what is made of a test.
+-- migration, a chart, an order, its script or its story, a picture of that, or what is made of a test.
 abbrev pub files_of : Line → Files
 files_of line = files_with line.config line.command
 

@@ -6,3 +6,4 @@ pub mod Files
 pub mod HintsWanted
 pub mod Rules
 pub mod Table
+pub mod Themes

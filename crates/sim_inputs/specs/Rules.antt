@@ -63,6 +63,9 @@ records_rule = flag_rule (codes "records")
 abbrev pub story_rule : Rule
 story_rule = flag_rule (codes "story")
 
+abbrev pub story_svg_rule : Rule
+story_svg_rule = file_option_rule (codes "story-svg")
+
 abbrev pub all_rule : Rule
 all_rule = flag_rule (codes "all")
 
@@ -118,6 +121,9 @@ kanata_rule = file_option_rule (codes "kanata")
 
 abbrev pub states_rule : Rule
 states_rule = number_option_rule (codes "states")
+
+abbrev pub theme_rule : Rule
+theme_rule = text_option_rule (codes "theme")
 
 abbrev pub watch_rule : Rule
 watch_rule = text_option_rule (codes "watch")
@@ -176,28 +182,32 @@ abbrev pub subcommand : Text → List Rule → App
 subcommand name rules = with_rule (fold with_rule (new_app name) rules) hints_rule
 
 -- `step IMAGE SCRIPT`, with `--config FILE`, `--harts N`, `--counts`, `--json`, `--lines FILE`, `--looks`, `--names`,
--- `--records`, `--show`, `--why` and `--trace FILE`.
+-- `--records`, `--show`, `--story`, `--all`, `--why` and `--trace FILE`.
 abbrev pub step_command : App
 step_command = subcommand (codes "step") (image_rule ∷ script_rule ∷ config_rule ∷ harts_rule ∷ counts_rule ∷ json_rule
-    ∷ lines_rule ∷ looks_rule ∷ names_rule ∷ records_rule ∷ show_rule ∷ why_rule ∷ written_trace_rule ∷ [])
+    ∷ lines_rule ∷ looks_rule ∷ names_rule ∷ records_rule ∷ show_rule ∷ story_rule ∷ all_rule ∷ why_rule
+    ∷ written_trace_rule ∷ [])
 
--- `run IMAGE`, with `--config FILE`, `--harts N`, `--counts`, `--json`, `--lines FILE`, `--names`, `--records`, `--why`,
--- `--times N`, `--keep FOLDER` and `--trace FILE`.
+-- `run IMAGE`, with `--config FILE`, `--harts N`, `--counts`, `--json`, `--lines FILE`, `--names`, `--records`,
+-- `--why`, `--times N`, `--watch LIST`, `--exists CONDITION`, `--forall CONDITION`, `--never CONDITION`,
+-- `--keep FOLDER` and `--trace FILE`.
 abbrev pub run_command : App
 run_command = subcommand (codes "run") (image_rule ∷ config_rule ∷ harts_rule ∷ counts_rule ∷ json_rule ∷ lines_rule
-    ∷ names_rule ∷ records_rule ∷ why_rule ∷ times_rule ∷ keep_rule ∷ written_trace_rule ∷ [])
+    ∷ names_rule ∷ records_rule ∷ why_rule ∷ times_rule ∷ watch_rule ∷ exists_rule ∷ forall_rule ∷ never_rule
+    ∷ keep_rule ∷ written_trace_rule ∷ [])
 
--- `check IMAGE TRACE`, with `--config FILE`, `--harts N`, `--counts`, `--json`, `--lines FILE`, `--names`, `--records`
--- and `--why`.
+-- `check IMAGE TRACE`, with `--config FILE`, `--harts N`, `--counts`, `--json`, `--lines FILE`, `--names`, `--records`,
+-- `--story`, `--all` and `--why`.
 abbrev pub check_command : App
 check_command = subcommand (codes "check") (image_rule ∷ trace_rule ∷ config_rule ∷ harts_rule ∷ counts_rule ∷ json_rule
-    ∷ lines_rule ∷ names_rule ∷ records_rule ∷ why_rule ∷ [])
+    ∷ lines_rule ∷ names_rule ∷ records_rule ∷ story_rule ∷ all_rule ∷ why_rule ∷ [])
 
--- `plain IMAGE ORDER`, with `--config FILE`, `--harts N`, `--lines FILE`, `--names`, `--records`, `--story` and `--all`;
--- or without the order, and with `--rounds K`, `--steps N` and `--seed S`.
+-- `plain IMAGE ORDER`, with `--config FILE`, `--harts N`, `--lines FILE`, `--names`, `--records`, `--story`,
+-- `--story-svg FILE`, `--theme THEME` and `--all`; or without the order, and with `--rounds K`, `--steps N` and `--seed S`.
 abbrev pub plain_command : App
 plain_command = subcommand (codes "plain") (image_rule ∷ order_or_rounds_rule ∷ config_rule ∷ harts_rule ∷ lines_rule
-    ∷ names_rule ∷ records_rule ∷ rounds_rule ∷ steps_rule ∷ seed_rule ∷ story_rule ∷ all_rule ∷ [])
+    ∷ names_rule ∷ records_rule ∷ rounds_rule ∷ steps_rule ∷ seed_rule ∷ story_rule ∷ story_svg_rule ∷ theme_rule ∷ all_rule
+    ∷ [])
 
 -- `schedule IMAGE ORDER`, with `--config FILE` and `--harts N`.
 abbrev pub schedule_command : App
@@ -225,11 +235,11 @@ explain_command = subcommand (codes "explain") (image_rule ∷ config_rule ∷ h
 
 -- `outcomes IMAGE`, with `--config FILE`, `--harts N`, `--states N`, `--watch LIST`, `--exists CONDITION`,
 -- `--forall CONDITION`, `--never CONDITION`, `--never-stuck`, `--first`, `--outcome N`, `--stuck`, `--witness FILE`,
--- `--script FILE`, `--story FILE`, `--all` and `--lines FILE`.
+-- `--script FILE`, `--story FILE`, `--story-svg FILE`, `--theme THEME`, `--all` and `--lines FILE`.
 abbrev pub outcomes_command : App
 outcomes_command = subcommand (codes "outcomes") (image_rule ∷ config_rule ∷ harts_rule ∷ states_rule ∷ watch_rule
     ∷ exists_rule ∷ forall_rule ∷ never_rule ∷ never_stuck_rule ∷ first_rule ∷ outcome_rule ∷ stuck_rule ∷ witness_rule
-    ∷ written_script_rule ∷ written_story_rule ∷ all_rule ∷ lines_rule ∷ [])
+    ∷ written_script_rule ∷ written_story_rule ∷ story_svg_rule ∷ theme_rule ∷ all_rule ∷ lines_rule ∷ [])
 
 -- `litmus TEST`, with `--config FILE`, `--states N`, `--image FILE`, `--why` and `--svg FILE`.
 abbrev pub litmus_command : App

@@ -22,6 +22,8 @@ pub(crate) enum Kind {
     Condition,
     /// `--name WHEN`, which may be there.
     When,
+    /// `--name THEME`, which may be there.
+    Theme,
 }
 
 /// An argument of a subcommand, as help describes it.
@@ -83,7 +85,7 @@ pub(crate) const HARTS_BESIDE_TRACE: Argument = Argument {
 pub(crate) const COUNTS: Argument = Argument {
     kind: Kind::Flag,
     name: "counts",
-    help: "Print how often each kind of event came, after the report",
+    help: "Count each kind of event, after the report",
 };
 
 pub(crate) const JSON: Argument = Argument {
@@ -122,6 +124,18 @@ pub(crate) const STORY: Argument = Argument {
     help: "Tell what steps show to other harts, before the report",
 };
 
+pub(crate) const STORY_SVG: Argument = Argument {
+    kind: Kind::Option,
+    name: "story-svg",
+    help: "The file for a picture of that",
+};
+
+pub(crate) const THEME: Argument = Argument {
+    kind: Kind::Theme,
+    name: "theme",
+    help: "Its colours: auto, light or dark",
+};
+
 pub(crate) const ALL: Argument = Argument {
     kind: Kind::Flag,
     name: "all",
@@ -143,7 +157,7 @@ pub(crate) const WHY: Argument = Argument {
 pub(crate) const WHY_ENDS: Argument = Argument {
     kind: Kind::Flag,
     name: "why",
-    help: "Tell why each hart that hasn't ended stands where it does",
+    help: "Tell where harts stand that haven't ended, and why",
 };
 
 pub(crate) const WHY_REFUSED: Argument = Argument {
@@ -161,13 +175,13 @@ pub(crate) const TIMES: Argument = Argument {
 pub(crate) const KEEP: Argument = Argument {
     kind: Kind::Folder,
     name: "keep",
-    help: "The folder for a trace and an order of each end",
+    help: "The folder for trace, order and story of each end",
 };
 
 pub(crate) const ROUNDS: Argument = Argument {
     kind: Kind::Number,
     name: "rounds",
-    help: "Without an order: each hart makes so many steps in turn",
+    help: "Without an order: each hart makes N steps in turn",
 };
 
 pub(crate) const STEPS: Argument = Argument {

@@ -20,8 +20,8 @@ pub struct Files<'a> {
     pub second: Option<&'a str>,
     /// The source lines of the image.
     pub lines: Option<&'a str>,
-    /// The file that is written: the trace of a core or of a migration, a chart, an order or its script,
-    /// or what is made of a litmus test.
+    /// The file that is written: the trace of a core or of a migration, a chart, an order, its script or its story, a
+    /// picture of that, or what is made of a litmus test.
     pub written: Option<&'a str>,
 }
 
@@ -38,7 +38,8 @@ impl<'a> ChartCommand<'a> {
 }
 
 impl<'a> OutcomesCommand<'a> {
-    /// The file that an order, its script or its story is written to; none where nothing is written.
+    /// The file that an order, its script, its story or a picture of that is written to; none where nothing is
+    /// written.
     pub fn written(&self) -> Option<&'a str>
         ensures { result ≡ written_order self.now }
     {
@@ -48,7 +49,10 @@ impl<'a> OutcomesCommand<'a> {
         if self.script.is_some() {
             return self.script;
         }
-        self.story
+        if self.story.is_some() {
+            return self.story;
+        }
+        self.story_svg
     }
 }
 
@@ -87,7 +91,7 @@ impl<'a> ProgramCommand<'a> {
             ProgramCommand::Step(step) => (step.image, Some(step.script), step.trace),
             ProgramCommand::Run(run) => (run.image, None, run.trace),
             ProgramCommand::Check(check) => (check.image, Some(check.trace), None),
-            ProgramCommand::Plain(plain) => (plain.image, plain.order, None),
+            ProgramCommand::Plain(plain) => (plain.image, plain.order, plain.story_svg),
             ProgramCommand::Schedule(schedule) => (schedule.image, Some(schedule.order), None),
             ProgramCommand::Script(script) => (script.image, Some(script.trace), None),
             ProgramCommand::List(list) => (list.image, None, None),

@@ -64,7 +64,7 @@ A configuration is a TOML file. Its keys, with what holds where one is absent:
   # the role of each actor, 1 to {MOST_ACTORS} of these names:
   actors = [\"fetch\", \"front\", \"retire\", \"alu\", \"mul\", \"mem\"]";
 
-/// How what is watched and a condition are written, for the help of `outcomes`.
+/// How what is watched and a condition are written, for the help of `outcomes` and of `run`.
 pub(crate) const OUTCOMES_FORM: &str = "\
 LIST is what tells outcomes apart, beside how harts end and what they put out:
 registers at harts, names of the program and words of memory, apart by commas:
@@ -80,7 +80,7 @@ CONDITION has terms joined by &, | and !, with parentheses: h0=1 & !(a0@1=2).
   out=4142       these bytes were put out
 Numbers are decimal, or hexadecimal behind 0x. What it names is watched too.
 A question is answered by yes or no, and by outcomes that say why; the exit
-status is 0 for yes, 1 for no, and 3 where the search ended too early to know.";
+status is 0 for yes, 1 for no, and 3 where what was found does not tell.";
 
 /// What a test is, for the help of `litmus`.
 pub(crate) const LITMUS_FORM: &str = "\

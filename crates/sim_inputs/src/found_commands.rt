@@ -7,7 +7,8 @@ ghost use Rattle.sim_inputs.specs.CommandLine.{IsLitmus, IsMigrate, IsOutcomes, 
 ghost use Rattle.sim_inputs.specs.CommandLine.{IsScript, IsStep, IsQuestion, has_condition, has_no_file};
 ghost use Rattle.sim_inputs.specs.CommandLine.{are_orders_together, can_be_drawn};
 ghost use Rattle.sim_inputs.specs.CommandLine.{can_be_plain, can_be_run, can_be_searched, can_be_tested};
-ghost use Rattle.sim_inputs.specs.CommandLine.{has_named_folder, has_one_file, is_reported};
+ghost use Rattle.sim_inputs.specs.CommandLine.{are_stories_together, can_be_told, has_named_folder, has_one_file};
+ghost use Rattle.sim_inputs.specs.CommandLine.{has_one_story, has_story, is_reported, shows_story};
 
 use crate::chart_ends::{chart_end, do_ends_rise};
 use crate::files::is_standard_input;
@@ -17,6 +18,7 @@ use crate::line::{
     OutcomesCommand, PlainCommand, QuestionText, RunCommand, ScheduleCommand, ScriptCommand,
     StepCommand,
 };
+use crate::themes::{can_be_themed, theme_in};
 use clap::ArgMatches;
 use numbers::sizes::{MOST_EVENTS, MOST_HARTS};
 
@@ -39,11 +41,11 @@ const MOST_COLUMNS: u32 = 10_000;
 const USUAL_STATES: u32 = 1_000_000;
 
 /// The command `step` of what was found; none where a file is missing that it must have. The eleven
-/// below answer for their commands; five of them have options that don't go together.
+/// below answer for their commands; six of them have options that don't go together, as this has.
 pub(crate) fn step_in<'a>(found: &ArgMatches<'a>) -> Option<StepCommand<'a>>
     ensures { Finds (IsStep (rows_of (found_of found.now))) result }
 {
-    Some(StepCommand {
+    let step = StepCommand {
         image: value_of(found, "IMAGE")?,
         script: value_of(found, "SCRIPT")?,
         trace: value_of(found, "trace"),
@@ -54,8 +56,21 @@ pub(crate) fn step_in<'a>(found: &ArgMatches<'a>) -> Option<StepCommand<'a>>
         names: is_set(found, "names"),
         records: is_set(found, "records"),
         show: is_set(found, "show"),
+        story: is_set(found, "story"),
+        all: is_set(found, "all"),
         why: is_set(found, "why"),
-    })
+    };
+    if !can_be_told(step.story, step.all) {
+        return None;
+    }
+    Some(step)
+}
+
+/// Whether what says more of a story has one.
+fn can_be_told(story: bool, all: bool) -> bool
+    ensures { result ≡ can_be_told story all }
+{
+    story || !all
 }
 
 pub(crate) fn run_in<'a>(found: &ArgMatches<'a>) -> Option<RunCommand<'a>>
@@ -71,6 +86,8 @@ pub(crate) fn run_in<'a>(found: &ArgMatches<'a>) -> Option<RunCommand<'a>>
         records: is_set(found, "records"),
         why: is_set(found, "why"),
         times: number(found, "times", MOST_TIMES)?,
+        watch: value_of(found, "watch"),
+        question: question_in(found)?,
         keep: value_of(found, "keep"),
     };
     if !can_be_run(&run) {
@@ -79,14 +96,14 @@ pub(crate) fn run_in<'a>(found: &ArgMatches<'a>) -> Option<RunCommand<'a>>
     Some(run)
 }
 
-/// Whether the options of a run go together: there is one run at least, only many have a folder, which has
-/// a name, and only one has a report.
+/// Whether the options of a run go together: there is one run at least, only many are watched, asked and have a
+/// folder, which has a name, and only one has a report.
 fn can_be_run(run: &RunCommand<'_>) -> bool
     ensures { result ≡ can_be_run run.now }
 {
     match run.times {
         Some(times) => times >= 1 && !is_reported(run) && has_named_folder(run),
-        None => run.keep.is_none(),
+        None => run.keep.is_none() && run.watch.is_none() && run.question.is_none(),
     }
 }
 
@@ -116,7 +133,7 @@ fn is_reported(run: &RunCommand<'_>) -> bool
 pub(crate) fn check_in<'a>(found: &ArgMatches<'a>) -> Option<CheckCommand<'a>>
     ensures { Finds (IsCheck (rows_of (found_of found.now))) result }
 {
-    Some(CheckCommand {
+    let check = CheckCommand {
         image: value_of(found, "IMAGE")?,
         trace: value_of(found, "TRACE")?,
         counts: is_set(found, "counts"),
@@ -124,8 +141,14 @@ pub(crate) fn check_in<'a>(found: &ArgMatches<'a>) -> Option<CheckCommand<'a>>
         lines: value_of(found, "lines"),
         names: is_set(found, "names"),
         records: is_set(found, "records"),
+        story: is_set(found, "story"),
+        all: is_set(found, "all"),
         why: is_set(found, "why"),
-    })
+    };
+    if !can_be_told(check.story, check.all) {
+        return None;
+    }
+    Some(check)
 }
 
 pub(crate) fn plain_in<'a>(found: &ArgMatches<'a>) -> Option<PlainCommand<'a>>
@@ -141,6 +164,8 @@ pub(crate) fn plain_in<'a>(found: &ArgMatches<'a>) -> Option<PlainCommand<'a>>
         names: is_set(found, "names"),
         records: is_set(found, "records"),
         story: is_set(found, "story"),
+        story_svg: value_of(found, "story-svg"),
+        theme: theme_in(found)?,
         all: is_set(found, "all"),
     };
     if !can_be_plain(&plain) {
@@ -150,17 +175,25 @@ pub(crate) fn plain_in<'a>(found: &ArgMatches<'a>) -> Option<PlainCommand<'a>>
 }
 
 /// Whether there is either an order or rounds, of an instruction at least, whether what says more
-/// of rounds has some, and whether a story has an order, and what says more of it a story.
+/// of rounds has some, and whether a story has an order, what says more of it a story, and colours a picture.
 fn can_be_plain(plain: &PlainCommand<'_>) -> bool
     ensures { result ≡ can_be_plain plain.now }
 {
-    let is_told = plain.story || !plain.all;
+    let is_told = can_be_told(plain.story, plain.all)
+        && can_be_themed(plain.story_svg.is_some(), plain.theme.is_some());
     match plain.rounds {
-        Some(rounds) => rounds >= 1 && plain.order.is_none() && !plain.story && is_told,
+        Some(rounds) => rounds >= 1 && plain.order.is_none() && !shows_story(plain) && is_told,
         None => {
             plain.order.is_some() && plain.steps.is_none() && plain.seed.is_none() && is_told
         }
     }
+}
+
+/// Whether a story is told or drawn.
+fn shows_story(plain: &PlainCommand<'_>) -> bool
+    ensures { result ≡ shows_story plain.now }
+{
+    plain.story || plain.story_svg.is_some()
 }
 
 pub(crate) fn schedule_in<'a>(found: &ArgMatches<'a>) -> Option<ScheduleCommand<'a>>
@@ -258,6 +291,8 @@ pub(crate) fn outcomes_in<'a>(found: &ArgMatches<'a>) -> Option<OutcomesCommand<
         witness: value_of(found, "witness"),
         script: value_of(found, "script"),
         story: value_of(found, "story"),
+        story_svg: value_of(found, "story-svg"),
+        theme: theme_in(found)?,
         all: is_set(found, "all"),
         lines: value_of(found, "lines"),
     };
@@ -267,7 +302,7 @@ pub(crate) fn outcomes_in<'a>(found: &ArgMatches<'a>) -> Option<OutcomesCommand<
     Some(outcomes)
 }
 
-/// The question that is asked of outcomes, if one is; none where it would be two.
+/// The question that is asked of outcomes or of runs, if one is; none where it would be two.
 fn question_in<'a>(found: &ArgMatches<'a>) -> Option<Option<QuestionText<'a>>>
     ensures { Finds (IsQuestion (rows_of (found_of found.now))) result }
 {
@@ -283,14 +318,25 @@ fn question_in<'a>(found: &ArgMatches<'a>) -> Option<Option<QuestionText<'a>>>
     }
 }
 
-/// Whether some state is looked at, and the options of orders and of stories go together.
+/// Whether some state is looked at, and the options of orders, of stories and of pictures go together.
 fn can_be_searched(outcomes: &OutcomesCommand<'_>) -> bool
     ensures { result ≡ can_be_searched outcomes.now }
 {
     outcomes.states >= 1
         && are_orders_together(outcomes)
         && (!outcomes.first || has_condition(outcomes))
-        && (outcomes.story.is_some() || !outcomes.all && outcomes.lines.is_none())
+        && are_stories_together(outcomes)
+        && can_be_themed(outcomes.story_svg.is_some(), outcomes.theme.is_some())
+}
+
+/// Whether what says more of a story has one.
+fn are_stories_together(outcomes: &OutcomesCommand<'_>) -> bool
+    ensures { result ≡ are_stories_together outcomes.now }
+{
+    if outcomes.story.is_some() {
+        return true;
+    }
+    !outcomes.all && (outcomes.story_svg.is_some() || outcomes.lines.is_none())
 }
 
 /// Whether an order is written of one end alone, and into one file; or none is.
@@ -305,12 +351,23 @@ fn are_orders_together(outcomes: &OutcomesCommand<'_>) -> bool
     }
 }
 
-/// Whether an order is written in one way: as it is, as its script or as its story.
+/// Whether an order is written in one way: as it is, as its script, as its story or as a picture of that.
 fn has_one_file(outcomes: &OutcomesCommand<'_>) -> bool
     ensures { result ≡ has_one_file outcomes.now }
 {
-    match (outcomes.witness, outcomes.script, outcomes.story) {
-        (Some(_), None, None) | (None, Some(_), None) | (None, None, Some(_)) => true,
+    match (outcomes.witness, outcomes.script) {
+        (Some(_), None) | (None, Some(_)) => !has_story(outcomes),
+        (None, None) => has_one_story(outcomes),
+        (Some(_), Some(_)) => false,
+    }
+}
+
+/// Whether a story is written, or a picture of one, and not both.
+fn has_one_story(outcomes: &OutcomesCommand<'_>) -> bool
+    ensures { result ≡ has_one_story outcomes.now }
+{
+    match (outcomes.story, outcomes.story_svg) {
+        (Some(_), None) | (None, Some(_)) => true,
         _ => false,
     }
 }
@@ -318,7 +375,14 @@ fn has_one_file(outcomes: &OutcomesCommand<'_>) -> bool
 fn has_no_file(outcomes: &OutcomesCommand<'_>) -> bool
     ensures { result ≡ has_no_file outcomes.now }
 {
-    outcomes.witness.is_none() && outcomes.script.is_none() && outcomes.story.is_none()
+    outcomes.witness.is_none() && outcomes.script.is_none() && !has_story(outcomes)
+}
+
+/// Whether a story is written, or a picture of one.
+fn has_story(outcomes: &OutcomesCommand<'_>) -> bool
+    ensures { result ≡ has_story outcomes.now }
+{
+    outcomes.story.is_some() || outcomes.story_svg.is_some()
 }
 
 /// Whether a question is asked that has a condition.

@@ -1,5 +1,6 @@
 use crate::hart_count::HartCount;
 use crate::hints_wanted::HintsWanted;
+use story_pictures::Theme;
 use thiserror::Error;
 
 /// What the program is asked to do: a command, beside the options that most commands have.
@@ -63,6 +64,10 @@ pub struct StepCommand<'a> {
     pub records: bool,
     /// `--show`: the core's tables are printed between the asks and the report.
     pub show: bool,
+    /// `--story`: what the core's retirements show to other harts is told behind the asks.
+    pub story: bool,
+    /// `--all`: the story has a row for each retirement. There is none without a story.
+    pub all: bool,
     /// `--why`: each ask's line is explained, and a tally of the reasons comes behind them; behind the
     /// report, why each hart that hasn't ended stands where it does.
     pub why: bool,
@@ -89,8 +94,13 @@ pub struct RunCommand<'a> {
     /// `--times N`: that many runs, 1 to `MOST_TIMES`, and a table of their ends in place of a report.
     /// Then there is none of the seven options above.
     pub times: Option<u32>,
-    /// `--keep FOLDER`: the folder for a trace and an order of each end. There is none without
-    /// `times`.
+    /// `--watch LIST`: what tells ends apart beside how the harts end and what was put out, as it is
+    /// spelled. There is none without `times`.
+    pub watch: Option<&'a str>,
+    /// What is asked of their ends; none without `times`, and none about states that nothing ends.
+    pub question: Option<QuestionText<'a>>,
+    /// `--keep FOLDER`: the folder for a trace, an order and a story of each end. There is none
+    /// without `times`.
     pub keep: Option<&'a str>,
 }
 
@@ -110,6 +120,10 @@ pub struct CheckCommand<'a> {
     pub names: bool,
     /// `--records`: a line for each record is printed before the report.
     pub records: bool,
+    /// `--story`: what the trace's retirements show to other harts is told before all else.
+    pub story: bool,
+    /// `--all`: the story has a row for each retirement. There is none without a story.
+    pub all: bool,
     /// `--why`: behind the report, why each hart that hasn't ended stands where it does.
     pub why: bool,
 }
@@ -135,6 +149,10 @@ pub struct PlainCommand<'a> {
     pub records: bool,
     /// `--story`: what the order's steps show to other harts is told before all else. There is none with rounds.
     pub story: bool,
+    /// `--story-svg FILE`: the file that a picture of it is written to. There is none with rounds.
+    pub story_svg: Option<&'a str>,
+    /// `--theme THEME`: the colours of the picture. There are none without one.
+    pub theme: Option<Theme>,
     /// `--all`: the story has a row for each step. There is none without a story.
     pub all: bool,
 }
@@ -237,16 +255,20 @@ pub struct OutcomesCommand<'a> {
     pub witness: Option<&'a str>,
     /// `--script FILE`: the file that the order's script is written to.
     pub script: Option<&'a str>,
-    /// `--story FILE`: the file that the order's story is written to. There is one of the three at
-    /// most.
+    /// `--story FILE`: the file that the order's story is written to.
     pub story: Option<&'a str>,
+    /// `--story-svg FILE`: the file that a picture of that story is written to. There is one of the
+    /// four at most.
+    pub story_svg: Option<&'a str>,
+    /// `--theme THEME`: the colours of the picture. There are none without one.
+    pub theme: Option<Theme>,
     /// `--all`: each instruction has a row in the story.
     pub all: bool,
     /// `--lines FILE`: the file of source lines, which stand behind the rows of the story.
     pub lines: Option<&'a str>,
 }
 
-/// A question about all outcomes, with its condition as it is spelled.
+/// A question about all outcomes, or about the ends of so many runs, with its condition as it is spelled.
 #[derive(Clone, Copy, Drop)]
 pub enum QuestionText<'a> {
     /// `--exists CONDITION`: does it hold of an outcome?

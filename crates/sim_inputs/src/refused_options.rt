@@ -4,6 +4,7 @@
 use crate::chart_ends::{do_ends_rise, read_end};
 use crate::hints_wanted::HintsWanted;
 use crate::refused_together::refused_together;
+use crate::themes::theme_named;
 use clap::ArgMatches;
 use hints::{Hint, Part};
 use numbers::sizes::{MOST_EVENTS, MOST_HARTS};
@@ -41,8 +42,17 @@ static NUMBERS: [NumberOption; 9] = [
 ];
 
 /// The options and the argument that name a file or a folder that is written, and so no dash.
-const WRITTEN: [&str; 9] = [
-    "trace", "keep", "svg", "kanata", "witness", "script", "story", "image", "OUT",
+const WRITTEN: [&str; 10] = [
+    "trace",
+    "keep",
+    "svg",
+    "kanata",
+    "witness",
+    "script",
+    "story",
+    "story-svg",
+    "image",
+    "OUT",
 ];
 
 /// Adds to a hint why these matches are no line. Fails only for want of memory.
@@ -57,7 +67,7 @@ pub(crate) fn add_refused_options(
     hint.add(Part::More, b"try '--help'.")
 }
 
-/// Adds what is refused first: the word of `--hints`, a number, options that don't go together, a dash.
+/// Adds what is refused first: the word of `--hints`, that of `--theme`, a number, options that don't go together, a dash.
 fn add_first_refused(
     command: &str,
     found: &ArgMatches<'_>,
@@ -65,6 +75,9 @@ fn add_first_refused(
     alloc: Global,
 ) -> Result<(), AllocError> {
     if add_hints_word(found, hint, alloc)? {
+        return Ok(());
+    }
+    if add_theme(found, hint, alloc)? {
         return Ok(());
     }
     if add_end(found, hint, alloc)? {
@@ -97,6 +110,19 @@ fn add_hints_word(
     }
     add_word("hints", word, hint, alloc)?;
     hint.add(Part::Expected, b"auto, always, never or json")?;
+    Ok(true)
+}
+
+/// Adds the word of `--theme` where it is none of them. Answers whether it is so.
+fn add_theme(found: &ArgMatches<'_>, hint: &mut Hint, alloc: Global) -> Result<bool, AllocError> {
+    let Some(word) = found.get_str("theme") else {
+        return Ok(false);
+    };
+    if theme_named(word).is_some() {
+        return Ok(false);
+    }
+    add_word("theme", word, hint, alloc)?;
+    hint.add(Part::Expected, b"auto, light or dark")?;
     Ok(true)
 }
 

@@ -19,6 +19,7 @@ const ONE_OF_THEM: &str = "one of them at most";
 /// The first options of a command that don't go together, if there are some.
 pub(crate) fn refused_together(command: &str, found: &ArgMatches<'_>) -> Option<RefusedOptions> {
     match command {
+        "step" | "check" => refused_of_stories(found),
         "run" => refused_of_runs(found),
         "plain" => refused_of_plain(found),
         "chart" if has(found, "svg") && has(found, "kanata") => {
@@ -42,10 +43,10 @@ fn has(found: &ArgMatches<'_>, name: &str) -> bool {
 
 fn refused_of_runs(found: &ArgMatches<'_>) -> Option<RefusedOptions> {
     if !has(found, "times") {
-        if has(found, "keep") {
-            return refused("--keep", "--times N beside it");
-        }
-        return None;
+        return refused_of_one_run(found);
+    }
+    if let Some(refused) = refused_of_questions(found) {
+        return Some(refused);
     }
     if found.get_str("keep") == Some("") {
         return refused("--keep ''", "the name of a folder");
@@ -70,6 +71,32 @@ fn refused_of_runs(found: &ArgMatches<'_>) -> Option<RefusedOptions> {
     refused(words, ONE_OF_THEM)
 }
 
+/// What is asked or kept of many runs, without them.
+fn refused_of_one_run(found: &ArgMatches<'_>) -> Option<RefusedOptions> {
+    let word = if has(found, "watch") {
+        "--watch"
+    } else if has(found, "exists") {
+        "--exists"
+    } else if has(found, "forall") {
+        "--forall"
+    } else if has(found, "never") {
+        "--never"
+    } else if has(found, "keep") {
+        "--keep"
+    } else {
+        return None;
+    };
+    refused(word, "--times N beside it")
+}
+
+/// What says more of a story, without one.
+fn refused_of_stories(found: &ArgMatches<'_>) -> Option<RefusedOptions> {
+    if has(found, "all") && !has(found, "story") {
+        return refused("--all", "--story beside it");
+    }
+    None
+}
+
 fn refused_of_plain(found: &ArgMatches<'_>) -> Option<RefusedOptions> {
     match (has(found, "ORDER"), has(found, "rounds")) {
         (true, true) => refused("ORDER --rounds", ONE_OF_THEM),
@@ -77,9 +104,22 @@ fn refused_of_plain(found: &ArgMatches<'_>) -> Option<RefusedOptions> {
         (true, false) if has(found, "steps") => refused("--steps", "--rounds K beside it"),
         (true, false) if has(found, "seed") => refused("--seed", "--rounds K beside it"),
         (false, true) if has(found, "story") => refused("--story", "ORDER in place of --rounds"),
-        _ if has(found, "all") && !has(found, "story") => refused("--all", "--story beside it"),
-        _ => None,
+        (false, true) if has(found, "story-svg") => {
+            refused("--story-svg", "ORDER in place of --rounds")
+        }
+        _ => match refused_of_stories(found) {
+            Some(refused) => Some(refused),
+            None => refused_of_themes(found),
+        },
     }
+}
+
+/// Colours without a picture.
+fn refused_of_themes(found: &ArgMatches<'_>) -> Option<RefusedOptions> {
+    if has(found, "theme") && !has(found, "story-svg") {
+        return refused("--theme", "--story-svg FILE beside it");
+    }
+    None
 }
 
 fn refused_of_outcomes(found: &ArgMatches<'_>) -> Option<RefusedOptions> {
@@ -89,19 +129,22 @@ fn refused_of_outcomes(found: &ArgMatches<'_>) -> Option<RefusedOptions> {
     if let Some(refused) = refused_of_orders(found) {
         return Some(refused);
     }
+    if let Some(refused) = refused_of_themes(found) {
+        return Some(refused);
+    }
     if has(found, "story") {
         return None;
     }
     if has(found, "all") {
         return refused("--all", "--story FILE beside it");
     }
-    if has(found, "lines") {
-        return refused("--lines", "--story FILE beside it");
+    if has(found, "lines") && !has(found, "story-svg") {
+        return refused("--lines", "--story FILE or --story-svg FILE beside it");
     }
     None
 }
 
-/// Two questions, and `--first` without a condition.
+/// Two questions, and `--first` without a condition. Of runs there are but three, and no `--first`.
 fn refused_of_questions(found: &ArgMatches<'_>) -> Option<RefusedOptions> {
     let exists = has(found, "exists");
     let (for_all, never) = (has(found, "forall"), has(found, "never"));
@@ -124,19 +167,10 @@ fn refused_of_questions(found: &ArgMatches<'_>) -> Option<RefusedOptions> {
 
 /// Orders of two ends, an order without its file or with two, and a file without an order.
 fn refused_of_orders(found: &ArgMatches<'_>) -> Option<RefusedOptions> {
-    let files = match (
-        has(found, "witness"),
-        has(found, "script"),
-        has(found, "story"),
-    ) {
-        (true, true, _) => return refused("--witness --script", ONE_OF_THEM),
-        (true, false, true) => return refused("--witness --story", ONE_OF_THEM),
-        (false, true, true) => return refused("--script --story", ONE_OF_THEM),
-        (true, false, false) => "--witness",
-        (false, true, false) => "--script",
-        (false, false, true) => "--story",
-        (false, false, false) => "",
-    };
+    if let Some(refused) = refused_of_files(found) {
+        return Some(refused);
+    }
+    let files = written_order(found);
     let words = match (has(found, "outcome"), has(found, "stuck")) {
         (true, true) => return refused("--outcome --stuck", ONE_OF_THEM),
         (false, false) if files.is_empty() || asks(found) => return None,
@@ -147,10 +181,41 @@ fn refused_of_orders(found: &ArgMatches<'_>) -> Option<RefusedOptions> {
     if files.is_empty() {
         return refused(
             words,
-            "--witness FILE, --script FILE or --story FILE beside it",
+            "--witness FILE, --script FILE, --story FILE or --story-svg FILE beside it",
         );
     }
     None
+}
+
+/// Two files for one order.
+fn refused_of_files(found: &ArgMatches<'_>) -> Option<RefusedOptions> {
+    let (witness, script) = (has(found, "witness"), has(found, "script"));
+    let (story, picture) = (has(found, "story"), has(found, "story-svg"));
+    let words = match (witness, script, story, picture) {
+        (true, true, _, _) => "--witness --script",
+        (true, false, true, _) => "--witness --story",
+        (true, false, false, true) => "--witness --story-svg",
+        (false, true, true, _) => "--script --story",
+        (false, true, false, true) => "--script --story-svg",
+        (false, false, true, true) => "--story --story-svg",
+        _ => return None,
+    };
+    refused(words, ONE_OF_THEM)
+}
+
+/// The option by which an order is written; nothing where none is.
+fn written_order(found: &ArgMatches<'_>) -> &'static str {
+    if has(found, "witness") {
+        "--witness"
+    } else if has(found, "script") {
+        "--script"
+    } else if has(found, "story") {
+        "--story"
+    } else if has(found, "story-svg") {
+        "--story-svg"
+    } else {
+        ""
+    }
 }
 
 /// Whether a question is asked.

@@ -19,5 +19,6 @@ mod teller;
 pub use deed::Deed;
 pub use recent::{Note, Recent};
 pub use row::{Row, row_of};
+pub use span::{Span, read_span, written_span};
 pub use step::{Step, deed_of, step_of};
 pub use teller::Teller;

@@ -10,9 +10,9 @@ use shared_memory::touches;
 
 /// Bytes of memory: `size` of them, from `addr` on.
 #[derive(Clone, Copy, Drop)]
-pub(crate) struct Span {
-    pub(crate) addr: u32,
-    pub(crate) size: u8,
+pub struct Span {
+    pub addr: u32,
+    pub size: u8,
 }
 
 /// The word at an address.
@@ -23,7 +23,7 @@ pub(crate) fn word_at(addr: u32) -> Span
 }
 
 /// What a load or an LR has read.
-pub(crate) fn read_span(deed: &Deed) -> Option<Span>
+pub fn read_span(deed: &Deed) -> Option<Span>
     ensures { result ≡ read_span deed.now }
 {
     match *deed {
@@ -37,7 +37,7 @@ pub(crate) fn read_span(deed: &Deed) -> Option<Span>
 }
 
 /// What a store, an SC that has written, or an AMO wrote.
-pub(crate) fn written_span(deed: &Deed) -> Option<Span>
+pub fn written_span(deed: &Deed) -> Option<Span>
     ensures { result ≡ written_span deed.now }
 {
     match *deed {

@@ -82,7 +82,7 @@ failed_text names noted addr = place_text names addr ++ (codes " fails: " ++ rea
 -- What earlier rows make of a store, and of an LR.
 abbrev pub lost_text : Row → Row → List ℕ
 lost_text read write =
-    codes ", lost update: " ++ (row_text write ++ (codes " came after its read at row " ++ decimal read.number))
+    codes ", lost update: " ++ (row_text write ++ (codes " came after the read at row " ++ decimal read.number))
 
 abbrev pub again_text : Row → Row → List ℕ
 again_text read write =

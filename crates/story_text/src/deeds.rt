@@ -193,7 +193,7 @@ fn write_lost_update<W: Write>(read: &Row, write: &Row, out: &mut W) -> io::Resu
 {
     out.write_all(b", lost update: ")?;
     write_row(write, out)?;
-    out.write_all(b" came after its read at row ")?;
+    out.write_all(b" came after the read at row ")?;
     write_number(read.number, out)
 }
 

@@ -21,5 +21,6 @@ pub use deeds::write_deed;
 pub use fields::write_number;
 pub use form::StoryForm;
 pub use line::write_head;
+pub use names::name_of;
 pub use order::{Untold, tell_order};
 pub use telling::Telling;

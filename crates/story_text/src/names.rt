@@ -9,7 +9,7 @@ use rv_word::AmoKind;
 use stories::Deed;
 
 /// The word that a row begins with.
-pub(crate) fn name_of(deed: &Deed) -> &'static str
+pub fn name_of(deed: &Deed) -> &'static str
     ensures { result.now ≡ name_of deed.now }
 {
     match *deed {

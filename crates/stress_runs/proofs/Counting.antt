@@ -1,12 +1,13 @@
 -- One row of a table, as a run is counted.
-use Rattle.std.proofs.Common.{◌≡◌, ℕ, ◌+◌, ◌%◌, ◌^◌, ◌<◌, Bool, true, false, ◌||◌, if◌then◌else◌, refl, ap, sym, ◌∙◌, arith}
-use Rattle.std.proofs.Common.{List, ◌∷◌, ◌++◌, length, map, take, drop, get_or, set}
+use Rattle.std.proofs.Common.{◌≡◌, ℕ, ◌+◌, ◌%◌, ◌^◌, ◌<◌, Bool, true, false, ◌||◌, if◌then◌else◌, refl, ap, sym, ◌∙◌}
+use Rattle.std.proofs.Common.{arith, List, ◌∷◌, ◌++◌, length, map, take, drop, get_or, set}
 use Rattle.std.specs.List.{list_any}
 use Rattle.std.proofs.lemmas.List.{drop_more, get_or_at, length-map, length-take}
 use Rattle.std.proofs.lemmas.List.Edits.{map_over_more}
 use Rattle.std.proofs.lemmas.List.Folds.{list_any_more}
 use Rattle.stress_runs.specs.declared.tally.Row.{Row}
-use Rattle.stress_runs.specs.{End.EndView, Ends.has_end, Ends.counting}
+use Rattle.watched_outcomes.specs.Endings.{Ending}
+use Rattle.stress_runs.specs.{Ends.has_end, Ends.counting}
 
 or_true : (b : Bool) → (b || true) ≡ true
 or_true true = refl
@@ -16,7 +17,7 @@ or_false : (b : Bool) → (b || false) ≡ b
 or_false true = refl
 or_false false = refl
 
-module _ (end : EndView) (xs ys : List Row) (i : ℕ) (x : Row) (inside : i < length xs)
+module _ (end : Ending) (xs ys : List Row) (i : ℕ) (x : Row) (inside : i < length xs)
     (so_far : ys ≡ map (counting end) (take i xs) ++ drop i xs) (here : x ≡ get_or ys i x) where
   was : x ≡ get_or xs i x
   was =

@@ -4,3 +4,4 @@ pub mod Same
 pub mod Tallying
 pub mod Ordering
 pub mod Rows
+pub mod Watched

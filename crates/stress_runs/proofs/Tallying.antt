@@ -1,24 +1,19 @@
 -- One more run in a tally.
-use Rattle.std.proofs.Common.{◌≡◌, ℕ, suc, ◌+◌, ◌%◌, ◌^◌, ◌<◌, ◌≤◌, Bool, true, false, not, ◌||◌, refl, ap, sym, subst, ◌∙◌}
-use Rattle.std.proofs.Common.{if◌then◌else◌, List, [], ◌∷◌, ◌++◌, length, map, max, arith, inl, inr}
+use Rattle.std.proofs.Common.{◌≡◌, ℕ, suc, ◌+◌, ◌%◌, ◌^◌, ◌<◌, ◌≤◌, Bool, true, false, not, ◌||◌, refl, ap, sym, subst}
+use Rattle.std.proofs.Common.{◌∙◌, if◌then◌else◌, List, [], ◌∷◌, ◌++◌, length, map, max, arith, inl, inr}
 use Rattle.std.proofs.lemmas.List.{map-append}
 use Rattle.std.specs.List.{list_any, filter}
 use Rattle.std.proofs.lemmas.Bool.{cases_Bool, false≢true}
 use Rattle.std.proofs.lemmas.List.Folds.{list_any-append}
 use Rattle.std.proofs.Math.Nat.{mod-eq_of_lt}
-use Rattle.smt_model.specs.{Basics.how_many, declared.config.Status.Status}
+use Rattle.smt_model.specs.{Basics.how_many}
 use Rattle.report_lines.specs.Lines.{status_number}
 use Rattle.stress_runs.specs.declared.tally.Row.{Row}
-use Rattle.stress_runs.specs.End.{EndView}
-use Rattle.stress_runs.specs.Ends.{same_end, ends_of, has_come, times_of, row_of, rows_of, worst_of, TallyView, tally_of, Counts}
+use Rattle.watched_outcomes.specs.Endings.{Ending}
+use Rattle.stress_runs.specs.Ends.{same_end, ends_of, has_come, times_of, row_of, rows_of, worst_of, TallyView}
+use Rattle.stress_runs.specs.Ends.{tally_of, Counts}
 use Rattle.stress_runs.specs.Ends.{has_end, counting}
 use Rattle.stress_runs.proofs.Same.{end_decides, end_turned}
-
--- Two ends with the same statuses and bytes are one.
-pub same_parts : (one other : EndView) → one.statuses ≡ other.statuses → one.output ≡ other.output → one ≡ other
-same_parts one other statuses output =
-    ap (λ (s : List Status). record { statuses = s; output = one.output }) statuses
-    ∙ ap (λ (o : List ℕ). record { statuses = other.statuses; output = o }) output
 
 or_false : (b : Bool) → (b || false) ≡ b
 or_false true = refl
@@ -31,20 +26,20 @@ or_turned false true = refl
 or_turned false false = refl
 
 -- An end that another end is has come where that one has.
-come_same : (end other : EndView) (past : List EndView) → same_end other end ≡ true → has_come other past ≡ true
+come_same : (end other : Ending) (past : List Ending) → same_end other end ≡ true → has_come other past ≡ true
     → has_come end past ≡ true
 come_same end other past same come = subst (λ e. has_come e past ≡ true) ((end_decides other end).0 same) come
 
 -- One of the runs has ended so exactly where the end is among theirs.
-module _ (end : EndView) where
-  among_old : (one : EndView) (past : List EndView) → has_come one past ≡ true
+module _ (end : Ending) where
+  among_old : (one : Ending) (past : List Ending) → has_come one past ≡ true
       → has_come end past ≡ (same_end one end || has_come end past)
   among_old one past come = elim (cases_Bool (same_end one end)) [
     | inl same ↦ rw same (come_same end one past same come)
     | inr other ↦ rw other refl
   ]
 
-  among_new : (one : EndView) (past : List EndView)
+  among_new : (one : Ending) (past : List Ending)
       → list_any (λ x. same_end x end) (ends_of past) ≡ has_come end past
       → list_any (λ x. same_end x end) (ends_of past ++ one ∷ []) ≡ (same_end one end || has_come end past)
   among_new one past before =
@@ -53,23 +48,23 @@ module _ (end : EndView) where
       ∙ ap (λ b. has_come end past || b) (or_false (same_end one end))
       ∙ or_turned (has_come end past) (same_end one end)
 
-  among : (past : List EndView) → list_any (λ x. same_end x end) (ends_of past) ≡ has_come end past
+  among : (past : List Ending) → list_any (λ x. same_end x end) (ends_of past) ≡ has_come end past
   among [] = refl
   among (one ∷ past) = elim (cases_Bool (has_come one past)) [
     | inl come ↦ rw come (among past ∙ among_old one past come)
     | inr new ↦ rw new (among_new one past (among past))
   ]
 
-  any_row : (past ends : List EndView)
+  any_row : (past ends : List Ending)
       → list_any (has_end end) (map (λ x. row_of past x) ends) ≡ list_any (λ x. same_end x end) ends
   any_row past [] = refl
   any_row past (x ∷ ends) = ap (λ b. same_end x end || b) (any_row past ends)
 
-  has_row : (past : List EndView) → list_any (has_end end) (rows_of past) ≡ has_come end past
+  has_row : (past : List Ending) → list_any (has_end end) (rows_of past) ≡ has_come end past
   has_row past = any_row past (ends_of past) ∙ among past
 
 -- How many pass a test are no more than there are.
-few_pass : (test : EndView → Bool) (xs : List EndView) → how_many test xs ≤ length xs
+few_pass : (test : Ending → Bool) (xs : List Ending) → how_many test xs ≤ length xs
 few_pass test [] = omega arith
 few_pass test (x ∷ xs) =
     let rest = few_pass test xs in
@@ -81,8 +76,8 @@ word n most limit few small =
     let next : n + 1 ≡ suc n = omega arith in
     mod-eq_of_lt inside ∙ next
 
-module _ (end : EndView) (past : List EndView) (small : length past + 1 < 2 ^ 32) where
-  counted_row : (x : EndView) → counting end (row_of past x) ≡ row_of (end ∷ past) x
+module _ (end : Ending) (past : List Ending) (small : length past + 1 < 2 ^ 32) where
+  counted_row : (x : Ending) → counting end (row_of past x) ≡ row_of (end ∷ past) x
   counted_row x = elim (cases_Bool (same_end x end)) [
     | inl same ↦
         let turned : same_end end x ≡ true = end_turned end x ∙ same in
@@ -93,12 +88,12 @@ module _ (end : EndView) (past : List EndView) (small : length past + 1 < 2 ^ 32
         rw (other, turned) refl
   ]
 
-  counted_rows : (ends : List EndView)
+  counted_rows : (ends : List Ending)
       → map (counting end) (map (λ x. row_of past x) ends) ≡ map (λ x. row_of (end ∷ past) x) ends
   counted_rows [] = refl
   counted_rows (x ∷ ends) = rw (counted_row x, counted_rows ends) refl
 
-  none_before : (runs : List EndView) → has_come end runs ≡ false → times_of runs end ≡ 0
+  none_before : (runs : List Ending) → has_come end runs ≡ false → times_of runs end ≡ 0
   none_before [] new = refl
   none_before (x ∷ runs) new = elim (cases_Bool (same_end x end)) [
     | inl same ↦ absurd (false≢true (sym (rw same at new)))
@@ -117,14 +112,15 @@ module _ (end : EndView) (past : List EndView) (small : length past + 1 < 2 ^ 32
       let self : same_end end end ≡ true = (end_decides end end).1 refl in
       let once : times_of (end ∷ past) end ≡ 1 = rw self (ap suc (none_before past new)) in
       ap (λ rows. rows ++ record { end = end; count = 1 } ∷ []) (counted_rows (ends_of past))
-      ∙ ap (λ (n : ℕ). map (λ x. row_of (end ∷ past) x) (ends_of past) ++ record { end = end; count = n } ∷ []) (sym once)
+      ∙ ap (λ (n : ℕ). map (λ x. row_of (end ∷ past) x) (ends_of past) ++ record { end = end; count = n } ∷ [])
+      (sym once)
       ∙ sym (map-append (λ x. row_of (end ∷ past) x) (ends_of past) (end ∷ []))
       ∙ sym all
 
 -- A tally that counted a run.
-module _ (end : EndView) (old : TallyView) (rows : List Row) (status : ℕ)
+module _ (end : Ending) (old : TallyView) (rows : List Row) (status : ℕ)
     (worse : status ≡ max old.status (status_number end.statuses)) where
-  is_tally : (past : List EndView) → old ≡ tally_of past → rows ≡ rows_of (end ∷ past)
+  is_tally : (past : List Ending) → old ≡ tally_of past → rows ≡ rows_of (end ∷ past)
       → record { rows = rows; status = status } ≡ tally_of (end ∷ past)
   is_tally past is same =
       let worst : status ≡ worst_of (end ∷ past) =
@@ -144,12 +140,13 @@ module _ (end : EndView) (old : TallyView) (rows : List Row) (status : ℕ)
   counts_first none is_rows = λ past small is.
       let new : has_come end past ≡ false =
       sym (has_row end past) ∙ ap (λ (t : TallyView). list_any (has_end end) t.rows) (sym is) ∙ none in
-      is_tally past is (is_rows ∙ ap (λ (t : TallyView). map (counting end) t.rows ++ record { end = end; count = 1 } ∷ []) is
+      is_tally past is (is_rows
+      ∙ ap (λ (t : TallyView). map (counting end) t.rows ++ record { end = end; count = 1 } ∷ []) is
       ∙ rows_first end past small new)
 
 -- The same, of a tally whose parts are these: its rows have counted the run, and it is told whether one of
 -- them is of its end.
-module _ (e end : EndView) (old : TallyView) (was rows : List Row) (stood status number : ℕ) (there : Bool)
+module _ (e end : Ending) (old : TallyView) (was rows : List Row) (stood status number : ℕ) (there : Bool)
     (view : record { rows = was; status = stood } ≡ old) (same : e ≡ end)
     (counted : rows ≡ map (counting e) was) (told : there ≡ list_any (has_end e) was)
     (worst : status ≡ max stood number) (numbered : number ≡ status_number e.statuses) where
@@ -158,26 +155,26 @@ module _ (e end : EndView) (old : TallyView) (was rows : List Row) (stood status
 
   worse_is : status ≡ max old.status (status_number end.statuses)
   worse_is =
-      worst ∙ ap (λ n. max stood n) (numbered ∙ ap (λ (x : EndView). status_number x.statuses) same)
+      worst ∙ ap (λ n. max stood n) (numbered ∙ ap (λ (x : Ending). status_number x.statuses) same)
       ∙ ap (λ (t : TallyView). max t.status (status_number end.statuses)) view
 
   told_is : list_any (has_end end) old.rows ≡ there
   told_is =
-      ap (λ (x : EndView). list_any (has_end x) old.rows) (sym same)
+      ap (λ (x : Ending). list_any (has_end x) old.rows) (sym same)
       ∙ ap (λ (rs : List Row). list_any (has_end e) rs) (sym was_is) ∙ sym told
 
   counted_is : rows ≡ map (counting end) old.rows
   counted_is =
       counted ∙ ap (λ (rs : List Row). map (counting e) rs) was_is
-      ∙ ap (λ (x : EndView). map (counting x) old.rows) same
+      ∙ ap (λ (x : Ending). map (counting x) old.rows) same
 
   pub counts_in_row : (new : List Row) → new ≡ rows → there ≡ true
       → Counts end old (record { rows = new; status = status })
   counts_in_row new is come = counts_again end old new status worse_is (told_is ∙ come) (is ∙ counted_is)
 
-  pub counts_in_new : (new : List Row) (one : EndView) → new ≡ rows ++ record { end = one; count = 1 } ∷ [] → one ≡ e
+  pub counts_in_new : (new : List Row) (one : Ending) → new ≡ rows ++ record { end = one; count = 1 } ∷ [] → one ≡ e
       → there ≡ false → Counts end old (record { rows = new; status = status })
   counts_in_new new one is is_end none =
       counts_first end old new status worse_is (told_is ∙ none)
       (is ∙ ap (λ (rs : List Row). rs ++ record { end = one; count = 1 } ∷ []) counted_is
-      ∙ ap (λ (x : EndView). map (counting end) old.rows ++ record { end = x; count = 1 } ∷ []) (is_end ∙ same))
+      ∙ ap (λ (x : Ending). map (counting end) old.rows ++ record { end = x; count = 1 } ∷ []) (is_end ∙ same))

@@ -1,4 +1,4 @@
-pub mod End
 pub mod Ends
 pub mod Table
+pub mod Answers
 pub mod Kept

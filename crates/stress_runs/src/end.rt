@@ -1,60 +1,66 @@
-ghost use Rattle.std.specs.Prelude.{◌≡◌, IfOk};
-ghost use Rattle.stress_runs.specs.Ends.{same_end};
+//! How a run has ended.
 
-use smt_model::Status;
+ghost use Rattle.std.specs.Prelude.{◌≡◌, IfOk, map, true};
+ghost use Rattle.outcomes.specs.Found.{committed_in, core_word};
+ghost use Rattle.outcomes.specs.Refusals.{AreWords, CanLoad};
+ghost use Rattle.watched_outcomes.specs.Watching.{AreThere, is_register_there};
+ghost use Rattle.stress_runs.specs.Ends.{end_of};
+
+use smt_core::Core;
 use std::alloc::{AllocError, Global};
-use std::marker::Model;
+use watched_outcomes::{Outcome, Watch, WatchedBytes, WatchedRegister};
 
-/// How a run has ended: how each hart stands, and the bytes that were put out.
-#[derive(Drop)]
-pub struct End {
-    statuses: Vec<Status>,
-    output: Vec<u8>,
+/// How the run has ended that has left this core, with what is watched of it. Errors: want of memory.
+pub(crate) fn end_of(core: &Core, watch: &Watch, alloc: Global) -> Result<Outcome, AllocError>
+    requires registers { AreThere core.now.setup.harts watch.now }
+    requires words { AreWords core.now.setup.image watch.now }
+    ensures { IfOk result (λ end. end ≡ end_of watch.now core.now) }
+{
+    let account = core.account();
+    Ok(Outcome {
+        statuses: account.statuses,
+        registers: registers_of(core, watch, alloc)?,
+        words: words_of(core, watch, alloc)?,
+        output: Vec::from_slice(alloc, account.output)?,
+    })
 }
 
-impl Model for End {
-    ghost use Rattle.stress_runs.specs.End.{EndView};
-
-    ghost Value = { EndView };
-
-    ghost view = { λ end. record { statuses = end.statuses.items; output = end.output.items } };
+/// What the watched registers hold, as the retired instructions have left them. Errors: want of memory.
+fn registers_of(core: &Core, watch: &Watch, alloc: Global) -> Result<Vec<u32>, AllocError>
+    requires { AreThere core.now.setup.harts watch.now }
+    ensures { IfOk result (λ numbers. numbers.items
+        ≡ map (committed_in core.now.setup core.now.past) watch.now.registers.items) }
+{
+    let mut numbers = Vec::with_capacity(alloc, watch.registers.len())?;
+    for watched in watch.registers.as_slice() {
+        numbers.push(register_in(core, *watched))?;
+    }
+    Ok(numbers)
 }
 
-impl End {
-    /// The end of a run whose harts stand so, and which has put out these bytes. Fails for want of
-    /// memory.
-    pub fn new(statuses: &[Status], output: &[u8], alloc: Global) -> Result<End, AllocError>
-        ensures { IfOk result
-            (λ end. end ≡ record { statuses = statuses.now; output = output.now }) }
-    {
-        let mut end = End {
-            statuses: Vec::new(alloc),
-            output: Vec::new(alloc),
-        };
-        end.statuses.extend_from_slice(statuses)?;
-        end.output.extend_from_slice(output)?;
-        Ok(end)
-    }
+fn register_in(core: &Core, watched: WatchedRegister) -> u32
+    requires { is_register_there core.now.setup.harts watched ≡ true }
+    ensures { result ≡ committed_in core.now.setup core.now.past watched }
+{
+    core.register(watched.hart, watched.register).unwrap_or(0)
+}
 
-    /// How each hart stands, hart 0 first.
-    pub fn statuses(&self) -> &[Status]
-        ensures { result.now ≡ self.now.statuses }
-    {
-        self.statuses.as_slice()
+/// What the watched places in memory hold. Errors: want of memory.
+fn words_of(core: &Core, watch: &Watch, alloc: Global) -> Result<Vec<u32>, AllocError>
+    requires { AreWords core.now.setup.image watch.now }
+    ensures { IfOk result (λ numbers. numbers.items
+        ≡ map (core_word core.now.setup core.now.past) watch.now.words.items) }
+{
+    let mut numbers = Vec::with_capacity(alloc, watch.words.len())?;
+    for index in 0..watch.words.len() {
+        numbers.push(word_in(core, watch.words[index]))?;
     }
+    Ok(numbers)
+}
 
-    /// The bytes that were put out, in order.
-    pub fn output(&self) -> &[u8]
-        ensures { result.now ≡ self.now.output }
-    {
-        self.output.as_slice()
-    }
-
-    /// Whether a run has ended so whose harts stand like this, and which has put out these bytes.
-    pub fn is(&self, statuses: &[Status], output: &[u8]) -> bool
-        ensures { result
-            ≡ same_end self.now (record { statuses = statuses.now; output = output.now }) }
-    {
-        self.statuses() == statuses && self.output() == output
-    }
+fn word_in(core: &Core, bytes: WatchedBytes) -> u32
+    requires { CanLoad core.now.setup.image bytes }
+    ensures { result ≡ core_word core.now.setup core.now.past bytes }
+{
+    core.memory().read(bytes.address, bytes.width.bytes())
 }

@@ -1,4 +1,4 @@
-//! The files of a run that shows an end: its trace, and the order in which its harts retired.
+//! The files of a run that shows an end: its trace, the order in which its harts retired, and its story.
 
 ghost use Rattle.std.specs.Prelude.{◌≡◌, ℕ, Bool, true, false, OnOk, OnErr};
 ghost use Rattle.std.specs.Io.KnownBytes.{Keeps};
@@ -6,17 +6,18 @@ ghost use Rattle.stress_runs.specs.declared.keeping.Part.{Part as AnyPart};
 ghost use Rattle.event_text.specs.Sinking.{HasPut};
 ghost use Rattle.stress_runs.specs.Kept.{IsKept, order_of, order_text};
 
-use crate::finishing::put_trace_file;
+use crate::finishing::{put_file, put_trace_file};
 use crate::order::put_order;
 use event_text::{Broken, Over, Sink};
 use smt_core::Core;
 use std::io::Write;
 
-/// Which of the two files of an end.
+/// Which of the three files of an end.
 #[derive(Clone, Copy, PartialEq, Eq, Drop)]
 pub enum Part {
     Trace,
     Order,
+    Story,
 }
 
 /// A sink whose bytes go into files. What is put goes into the file that was begun last, or into the one
@@ -60,13 +61,18 @@ impl<W: Write> EndFiles for Over<W> {
     }
 }
 
-/// Puts the trace of a core and its order of harts into the files of the end with this number, and finishes
-/// each.
-pub fn keep_end<F: EndFiles>(core: &Core, end: u64, files: &mut F) -> Result<(), Broken>
+/// Puts the trace of a core, its order of harts and its story, which is this text, into the files of the end with this
+/// number, and finishes each.
+pub fn keep_end<F: EndFiles>(
+    core: &Core,
+    end: u64,
+    story: &[u8],
+    files: &mut F,
+) -> Result<(), Broken>
     requires works { F.has_failed files.old ≡ false }
     requires finished { F.is_finished files.old ≡ true }
     ensures kept { OnOk result
-        (IsKept F.begins F.written F.has_failed files.old files.new end core.now) }
+        (IsKept F.begins F.written F.has_failed files.old files.new end core.now story.now) }
     ensures works { OnOk result (F.has_failed files.new ≡ false) }
     ensures finished { OnOk result (F.is_finished files.new ≡ true) }
     ensures broken { OnErr result (F.has_failed files.new ≡ true) }
@@ -74,7 +80,9 @@ pub fn keep_end<F: EndFiles>(core: &Core, end: u64, files: &mut F) -> Result<(),
     files.begin(end, Part::Trace)?;
     put_trace_file(core, files)?;
     files.begin(end, Part::Order)?;
-    put_order_file(core, files)
+    put_order_file(core, files)?;
+    files.begin(end, Part::Story)?;
+    put_file(story, files)
 }
 
 /// Puts the order in which the harts of a core have retired into a file, and finishes it.

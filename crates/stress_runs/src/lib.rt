@@ -1,11 +1,12 @@
 //! How the runs of a program end, and how often each end comes.
 //!
-//! Read in this order: `end` (how a run has ended), `tally` (the ends that came, and how often),
-//! `table` (what is printed of them); `order` (the text of an order of harts), `keeping` (the files
-//! of a run that shows an end, and of any command that writes one), `finishing` (what goes into one file
-//! whole). Who makes the runs is `commands`.
+//! Read in this order: `end` (how a run has ended, with what is watched), `tally` (the ends that came, and how often),
+//! `table` (what is printed of them), `answers` (what they answer to a question); `order` (the text of an order of
+//! harts), `keeping` (the files of a run that shows an end, and of any command that writes one), `finishing` (what goes
+//! into one file whole). Who makes the runs is `commands`.
 #![tactic(auto)]
 
+mod answers;
 mod end;
 mod finishing;
 pub mod keeping;
@@ -13,7 +14,7 @@ mod order;
 mod table;
 pub mod tally;
 
-pub use end::End;
+pub use answers::{report_answer, sampled_answer};
 pub use finishing::{put_file, put_trace_file};
 pub use keeping::{EndFiles, Part, keep_end};
 pub use table::report_tally;

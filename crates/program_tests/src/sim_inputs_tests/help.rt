@@ -20,24 +20,26 @@ explain|outcomes|litmus|migrate|--version|harts|extra|queue|ram|limit|turns|acto
     ),
     (
         "smtsim step --help",
-        "Usage: smtsim step [OPTIONS] <IMAGE> <SCRIPT>|--config <FILE>|--harts <N>|--counts|--json|--lines <FILE>|--looks|\
---names|--records|--show|--why|--trace <FILE>",
+        "Usage: smtsim step [OPTIONS] <IMAGE> <SCRIPT>|--config <FILE>|--harts <N>|--counts|--json|--lines <FILE>|\
+--looks|--names|--records|--show|--story|--all|--why|--trace <FILE>",
     ),
     (
         "smtsim run --help",
         "Usage: smtsim run [OPTIONS] <IMAGE>|--config <FILE>|--harts <N>|--counts|--json|--lines <FILE>|\
---names|--records|--why|--times <N>|--keep <FOLDER>|--trace <FILE>",
+--names|--records|--why|--times <N>|--watch <LIST>|--exists <CONDITION>|--forall <CONDITION>|--never <CONDITION>|\
+--keep <FOLDER>|--trace <FILE>",
     ),
     (
         "smtsim check --help",
         "Usage: smtsim check [OPTIONS] <IMAGE> <TRACE>|--config <FILE>|--harts <N>|--counts|--json|\
---lines <FILE>|--names|--records|--why|smt-trace 3|config harts extra queue role role ..|smt-trace 2|smt-trace 1|\
+--lines <FILE>|--names|--records|--story|--all|--why|smt-trace 3|\
+config harts extra queue role role ..|smt-trace 2|smt-trace 1|\
 F actor hart number pc word predicted|T actor number value next address data out",
     ),
     (
         "smtsim plain --help",
         "Usage: smtsim plain [OPTIONS] <IMAGE> [ORDER]|--config <FILE>|--harts <N>|--lines <FILE>|\
---names|--records|--rounds <N>|--steps <N>|--seed <N>|0 to 255",
+--names|--records|--rounds <N>|--steps <N>|--seed <N>|--story-svg <FILE>|--theme <THEME>|0 to 255",
     ),
     (
         "smtsim schedule --help",
@@ -55,7 +57,7 @@ F actor hart number pc word predicted|T actor number value next address data out
         "smtsim outcomes --help",
         "Usage: smtsim outcomes [OPTIONS] <IMAGE>|--config <FILE>|--harts <N>|--states <N>|--watch <LIST>|\
 --exists <CONDITION>|--forall <CONDITION>|--never <CONDITION>|--never-stuck|--first|--outcome <N>|--stuck|\
---witness <FILE>|--script <FILE>|--story <FILE>|--all|--lines <FILE>|a0@1,counter,next[3],node+8|h0=1 & !(a0@1=2)",
+--witness <FILE>|--script <FILE>|--story <FILE>|--story-svg <FILE>|--theme <THEME>|--all|--lines <FILE>|a0@1,counter,next[3],node+8|h0=1 & !(a0@1=2)",
     ),
     (
         "smtsim litmus --help",

@@ -15,6 +15,9 @@ smtsim step --fast first.elf first.script
 smtsim step --show --show a b
 smtsim step --show=yes a b
 smtsim step --looks --looks a b
+smtsim step --all a b
+smtsim step --story --story a b
+smtsim check --all a t
 smtsim step --record a b
 smtsim step a b --config
 smtsim step a b --trace
@@ -41,6 +44,17 @@ smtsim run --looks a
 smtsim run --times 0 a
 smtsim run --times 1000001 a
 smtsim run --keep f a
+smtsim run --watch a0@1 a
+smtsim run --times 2 --watch a0@1 --watch a1@1 a
+smtsim run --exists x=1 a
+smtsim run --forall x=1 a
+smtsim run --never x=1 a
+smtsim run --times 2 --exists x=1 --exists x=2 a
+smtsim run --times 2 --exists x=1 --forall x=1 a
+smtsim run --times 2 --exists x=1 --never x=1 a
+smtsim run --times 2 --forall x=1 --never x=1 a
+smtsim run --times 2 --never-stuck a
+smtsim run --times 2 --exists x=1 --first a
 smtsim run --times 2 --keep= a
 smtsim run --times 2 --trace t a
 smtsim run --times 2 --records a
@@ -61,6 +75,11 @@ smtsim plain a b --seed 1
 smtsim plain a --steps 1
 smtsim plain a --rounds 0
 smtsim plain a --rounds 4294967296
+smtsim plain a --rounds 1 --story-svg p
+smtsim plain --story-svg p a b --all
+smtsim plain --story-svg - a b
+smtsim plain --theme dark a b
+smtsim plain --story-svg p --theme Dark a b
 smtsim plain --counts a b
 smtsim plain a b c
 smtsim plain --show a b
@@ -111,6 +130,14 @@ smtsim outcomes --never x=1 --script s --story t a
 smtsim outcomes --exists x=1 --all a
 smtsim outcomes --exists x=1 --lines l a
 smtsim outcomes --exists x=1 --story - a
+smtsim outcomes --story-svg s a
+smtsim outcomes --exists x=1 --story s --story-svg p a
+smtsim outcomes --exists x=1 --witness w --story-svg p a
+smtsim outcomes --stuck --script s --story-svg p a
+smtsim outcomes --stuck --story-svg p --all a
+smtsim outcomes --exists x=1 --story-svg - a
+smtsim outcomes --exists x=1 --story s --theme light a
+smtsim outcomes --exists x=1 --story-svg p --theme black a
 smtsim litmus
 smtsim litmus a b
 smtsim litmus --states 0 a
@@ -157,6 +184,6 @@ fn other_words_are_refused(rt: HostRuntime) {
         holds(&rt, text, are_refused(text, rt.alloc()) == Ok(true));
         rows = rows.wrapping_add(1);
     }
-    assert!(rt; rows == 133);
+    assert!(rt; rows == 160);
     assert!(rt; is_refusal(read_words(&[], rt.alloc())));
 }

@@ -1,11 +1,11 @@
-use Rattle.std.proofs.Common.{ap, ◌∙◌}
-use Rattle.commands.proofs.OfRuns.{many_performed, one_performed}
+use Rattle.symbols.specs.Tables.{table_of}
+use Rattle.commands.proofs.OfRuns.{many_performed}
 use Rattle.commands.proofs.runs.perform_runs.Goals as goal
 
 pub returns-in-Some : goal.returns-in-Some
-returns-in-Some g c = λ names lines second same.
+returns-in-Some g c = λ lines second same.
     let did = c.perform_stress.ensures in
     many_performed g.S.EndFiles.begins g.S.Sink.written g.S.Sink.has_failed _ _ c.args.run.now c.args.settings.now
-    c.args.image.now names lines second _ _ c.perform_stress.result did.refused did.unbroken g.S.EndFiles.is_finished
-    did.finished did.unreported _ _ c.in-Some.is
-    c.is_some-keep.ensures did.ended did.unwanted
+    c.args.image.now (table_of c.args.names.now) lines second _ _ c.perform_stress.result did.unbroken
+    g.S.EndFiles.is_finished
+    did.finished did.unreported _ c.in-Some.is did.refused did.ended did.unwanted

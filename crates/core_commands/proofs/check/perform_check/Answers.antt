@@ -3,6 +3,7 @@ use Rattle.std.proofs.lemmas.Result.{IfErr-weaker, IfOk-weaker}
 use mathlib.Core.Logic.{inl, inr}
 use Rattle.address_labels.specs.Labels.{marks_of}
 use Rattle.core_commands.specs.Account.{IsReported}
+use Rattle.core_commands.specs.Wanted.{wants_of}
 use Rattle.core_commands.proofs.OfCheck.{report_refusal, comes_to, report_untold}
 use Rattle.core_commands.proofs.check.perform_check.Goals as goal
 
@@ -24,7 +25,7 @@ returns-clause-ended g c =
     let judged = c.in-Ok.ensures.accepted in
     let reported = rw c.core.ensures at c.report_core.ensures.reported in
     IfOk-weaker c.report_core.result _ _
-    (λ status reported. comes_to c.args.settings.now c.args.image.now c.args.trace.now c.args.wanted
+    (λ status reported. comes_to c.args.settings.now c.args.image.now c.args.trace.now (wants_of c.args.wanted)
     (marks_of c.args.labels.now) judged.trace _ _ _ status judged.is_trace judged.whole judged.accepted judged.shown
     reported)
     reported

@@ -2,6 +2,7 @@ use Rattle.std.specs.Prelude.{[], Err}
 use Rattle.std.proofs.Common.{ap, ◌∙◌}
 use Rattle.std.proofs.lemmas.Result.{IfErr-weaker}
 use Rattle.address_labels.specs.Labels.{marks_of}
+use Rattle.core_commands.specs.Wanted.{wants_of}
 use Rattle.core_commands.proofs.OfAnswer.{with_both}
 use Rattle.core_commands.proofs.OfStep.{report_refusal}
 use Rattle.core_commands.proofs.OfPrompt.{accepted_all, refused_all, empty_asks, prompt_comes_to}
@@ -33,7 +34,7 @@ returns g c =
       ended =
           with_both answer _ _ _ account.traced reported
           (λ traced status reported. prompt_comes_to g.P.Predict.predicts c.args.context.now.predict c.args.settings.now
-          (g.B.Read.remaining c.args.reader.now) c.args.wanted
+          (g.B.Read.remaining c.args.reader.now) (wants_of c.args.wanted)
           (marks_of c.args.labels.now) _ c.args.image.now c.in-Ok.prompted.ended
           c.in-Ok.prompted.core c.in-Ok.prompted.idle _ _ _ status accepted came.prompted came.printed traced reported);
       unwanted = account.unwanted;

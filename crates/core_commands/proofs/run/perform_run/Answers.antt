@@ -1,5 +1,6 @@
 use Rattle.std.proofs.lemmas.Result.{IfErr-weaker}
 use Rattle.address_labels.specs.Labels.{marks_of}
+use Rattle.core_commands.specs.Wanted.{wants_of}
 use Rattle.core_commands.proofs.OfAnswer.{with_both}
 use Rattle.core_commands.proofs.OfRun.{report_refusal, comes_to}
 use Rattle.core_commands.proofs.run.perform_run.Goals as goal
@@ -17,10 +18,9 @@ returns g c =
           account.refused;
       ended =
           with_both answer _ _ _ account.traced reported
-          (λ traced status reported. comes_to c.args.settings.now c.args.image.now c.args.wanted
-          (marks_of c.args.labels.now) c.in_ok-finished.finished.core c.in_ok-finished.finished.idle _ _ _ status ran.accepted ran.manned
-          ran.setup ran.limit ran.shown traced
-          reported);
+          (λ traced status reported. comes_to c.args.settings.now c.args.image.now (wants_of c.args.wanted)
+          (marks_of c.args.labels.now) c.in_ok-finished.finished.core c.in_ok-finished.finished.idle _ _ _ status
+          ran.accepted ran.manned ran.setup ran.limit ran.shown traced reported);
       unwanted = account.unwanted;
       unbroken = account.unbroken;
       finished = account.finished;

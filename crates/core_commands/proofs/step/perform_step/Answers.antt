@@ -1,6 +1,7 @@
 use Rattle.std.proofs.Common.{◌∙◌}
 use Rattle.std.proofs.lemmas.Result.{IfErr-weaker}
 use Rattle.address_labels.specs.Labels.{marks_of}
+use Rattle.core_commands.specs.Wanted.{wants_of}
 use Rattle.core_commands.proofs.OfAnswer.{with_both}
 use Rattle.core_commands.proofs.OfStep.{report_refusal, comes_to, unreported}
 use Rattle.core_commands.proofs.step.perform_step.Goals as goal
@@ -20,8 +21,8 @@ returns g c =
       ended =
           with_both answer _ _ _ traced reported
           (λ traced status reported. comes_to c.args.settings.now c.args.image.now c.args.script.now c.args.why
-          c.args.wanted (marks_of c.args.labels.now) c.in_ok-finished.finished.core c.in_ok-finished.finished.idle _
-          _ _ _ status
+          (wants_of c.args.wanted) (marks_of c.args.labels.now) c.in_ok-finished.finished.core
+          c.in_ok-finished.finished.idle _ _ _ _ status
           asked.accepted asked.script asked.setup asked.limit asked.shown asked.printed traced reported);
       unwanted = λ none. account.unwanted none ∙ asked.unwritten;
       unbroken = account.unbroken;

@@ -18,7 +18,9 @@ returns-then-not-can_be_searched c =
       witness = c.value_of-3.result;
       script = c.value_of-4.result;
       story = c.value_of-5.result;
+      story_svg = c.value_of-6.result;
+      theme = c.in_ok-theme_in.field-0;
       all = c.is_set-3.result;
-      lines = c.value_of-6.result;
+      lines = c.value_of-7.result;
     } in
     no_search (rows_of (found_of c.args.found.now)) made (search rules) (search rules)

@@ -14,7 +14,7 @@ returns g c =
     let third = g.W.Write.contents c.write_all-2.new.self in
     let last = g.W.Write.contents c.write_number.new.out in
     let row = row_text c.args.write.now in
-    let between = codes " came after its read at row " in
+    let between = codes " came after the read at row " in
     let number = decimal c.args.read.now.number in
     on_ok_weaker c.write_number.result
     (λ told. appends_more old first last (codes ", lost update: ") (row ++ (between ++ number))

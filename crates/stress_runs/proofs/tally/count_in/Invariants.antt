@@ -6,8 +6,6 @@ use Rattle.stress_runs.proofs.tally.count_in.Given as goal
 -- the rows so far have counted the run, and it is told whether one of them is of its end
 abbrev pub invariant-loop-row : goal.invariant-loop-row
 invariant-loop-row l = record {
-  counted : l.rows ≡ map (counting (record { statuses = l.statuses; output = l.output })) (take l.row-index l.initial.rows)
-      ++ drop l.row-index l.initial.rows;
-  there : l.there ≡ list_any (has_end (record { statuses = l.statuses; output = l.output }))
-      (take l.row-index l.initial.rows);
+  counted : l.rows ≡ map (counting l.end) (take l.row-index l.initial.rows) ++ drop l.row-index l.initial.rows;
+  there : l.there ≡ list_any (has_end l.end) (take l.row-index l.initial.rows);
 }

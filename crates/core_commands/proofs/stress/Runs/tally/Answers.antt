@@ -7,7 +7,7 @@ pub loop-run-init : goal.loop-run-init
 loop-run-init g c =
     let once = c.in_ok-run_once.ensures in
     record {
-      tallied = first_run g.F.EndFiles.begins g.F.Sink.written g.F.Sink.has_failed _ _ c.args.keep _ _ _ _
+      tallied = first_run g.F.EndFiles.begins g.F.Sink.written g.F.Sink.has_failed _ _ _ _ c.args.keep _ _ _ _
           c.new-tally.ensures once.ran;
       works = once.unbroken;
       finished = once.finished;
@@ -20,7 +20,7 @@ loop-run-preserved g c =
     let once = c.in_ok-run_once-2.ensures in
     let few : c.loop-run._run + 1 < 2 ^ 32 = omega (arith, c.loop-run-test.true, c.ranges.count.fits) in
     record {
-      tallied = one_more_run g.F.EndFiles.begins g.F.Sink.written g.F.Sink.has_failed _ _ c.args.keep _ _ _
+      tallied = one_more_run g.F.EndFiles.begins g.F.Sink.written g.F.Sink.has_failed _ _ _ _ c.args.keep _ _ _
           c.loop-run._run _ _
           few so_far.tallied once.ran;
       works = once.unbroken;

@@ -1,0 +1,13 @@
+pub mod Form
+pub mod Accesses
+pub mod Relations
+pub mod Notes
+pub mod Geometry
+pub mod Words
+pub mod Elements
+pub mod Arrows
+pub mod Boxes
+pub mod Foot
+pub mod Style
+pub mod Picture
+pub mod Order
