@@ -3,9 +3,9 @@
 
 use litmus_reading::{MOST_BYTES, ReadingRefused, read_litmus};
 use litmus_tests::{
-    Comparison, Condition, LitmusStep, LitmusTest, Observed, Quantifier, RegisterStart, Term, Value,
+    Condition, LitmusStep, LitmusTest, Observed, Quantifier, RegisterStart, Term, Value,
 };
-use rv_instr::{ImmediateOp, Instr, LoadOp, Ordering, RegisterOp, StoreOp};
+use rv_instr::{BranchOp, ImmediateOp, Instr, LoadOp, Ordering, RegisterOp, StoreOp};
 use rv_word::AmoKind;
 use std::alloc::Global;
 
@@ -263,9 +263,9 @@ fn is_always(condition: &Condition) -> bool {
 }
 
 /// A branch where a register isn't 0.
-fn branch(comparison: Comparison, left: u8, target: usize) -> LitmusStep {
+fn branch(op: BranchOp, left: u8, target: usize) -> LitmusStep {
     LitmusStep::Branch {
-        comparison,
+        op,
         left,
         right: 0,
         target,
@@ -295,9 +295,9 @@ fn reads_a_lock(rt: HostRuntime) {
     };
     let taking = [
         straight(reserved),
-        branch(Comparison::Different, 5, 0),
+        branch(BranchOp::Bne, 5, 0),
         straight(conditional),
-        branch(Comparison::Different, 7, 0),
+        branch(BranchOp::Bne, 7, 0),
         straight(Instr::Fence),
     ];
     assert!(rt; does(&test, 0, &taking));
@@ -330,7 +330,7 @@ fn reads_atomics_constants_and_shifts(rt: HostRuntime) {
     };
     let steps = [
         straight(swap),
-        branch(Comparison::Equal, 0, 1),
+        branch(BranchOp::Beq, 0, 1),
         constant,
         straight(shift),
     ];
@@ -461,8 +461,8 @@ static REFUSED: [(&str, &str); 34] = [
         "line 5, column 1: no exists, ~exists or forall",
     ),
     (
-        "RISCV A\n{ }\nP0;\nfilter true\nexists true",
-        "line 4, column 1: what stands there isn't of the subset: filter",
+        "RISCV A\n{ }\nP0;\nfilter true\nfilter true\nexists true",
+        "line 5, column 1: no exists, ~exists or forall",
     ),
     (
         "RISCV A\n{ }\nP0;\nexists (z=1)",

@@ -126,7 +126,7 @@ accesses_as Atomic event = is_read event && is_write event
 abbrev pub does_as : LitmusStep → MemoryEvent → Bool
 does_as (Straight instruction) event = accesses_as (kind_of_instr instruction) event
 does_as (Constant register value) event = false
-does_as (Branch comparison left right target) event = false
+does_as (Branch op left right target) event = false
 
 -- Its step is one of its hart, and accesses memory so.
 abbrev pub is_made : LitmusTest → MemoryEvent → Bool

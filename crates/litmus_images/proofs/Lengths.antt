@@ -26,7 +26,7 @@ step_length_is : (steps : List LitmusStep) (index : ℕ) (step : LitmusStep)
 unfolding constant_words
 step_length_is steps index (Straight instruction) = refl
 step_length_is steps index (Constant register value) = refl
-step_length_is steps index (Branch comparison left right target) = refl
+step_length_is steps index (Branch op left right target) = refl
 
 starts_length : (starts : List RegisterStart) → length (flat_map start_words starts) ≡ 2 * length starts
 unfolding constant_words

@@ -71,8 +71,8 @@ step_in_range : (steps : List LitmusStep) (index : ℕ) → length steps ≤ 500
     → All IsInstructionInRange (step_words steps index step)
 step_in_range steps index few (Straight instruction) sound = one_in_range instruction sound.0
 step_in_range steps index few (Constant register value) sound = constant_in_range register value sound
-step_in_range steps index few (Branch comparison left right target) sound =
-    one_in_range (instr.Branch (branch_op comparison) left right
+step_in_range steps index few (Branch op left right target) sound =
+    one_in_range (instr.Branch op left right
     (distance (step_place steps index) (step_place steps target))) (
       sound.0,
       sound.1,

@@ -1,5 +1,5 @@
-//! Conditions, by recursive descent: `\/` of `/\` of what stands alone. The recursion is as deep as `not` and
-//! parentheses are nested, which is bounded.
+//! Conditions, by recursive descent: `<=>` of `=>` of `\/` of `/\` of what stands alone. The recursion is as deep as
+//! `not` and parentheses are nested, and as there are terms before a `=>`; both are bounded.
 
 ghost use Rattle.std.specs.Prelude.{◌<◌, IfOk};
 ghost use Rattle.litmus_reading.specs.Grammar.{
@@ -7,6 +7,8 @@ ghost use Rattle.litmus_reading.specs.Grammar.{
   IsNegation,
   IsConjunction,
   IsDisjunction,
+  IsImplication,
+  IsEquivalence,
 };
 ghost use Rattle.litmus_words.specs.Parts.{ObservedTaken};
 
@@ -33,10 +35,47 @@ pub(crate) struct Leaves {
     pub observed: Vec<Observed>,
 }
 
-/// Reads conditions with `\/` between, whose leaves go behind `leaves`; `room` says how many levels may be nested in
+/// Reads conditions with `<=>` between, whose leaves go behind `leaves`; `room` says how many levels may be nested in
 /// it.
 #[cycle(condition)]
 pub(crate) fn read_condition<'a>(
+    asked: &Asked,
+    words: &'a [Word],
+    room: u8,
+    leaves: &mut Leaves,
+) -> Result<(Condition, &'a [Word]), Stop>
+    ensures { IfOk result (λ p. ConditionTaken 4 words.now p.0 p.1.now) }
+{
+    let (mut condition, mut rest) = read_implied(asked, words, room, leaves)?;
+    while let Some(behind) = behind_mark(rest, Mark::Equivalent) {
+        let (right, behind) = read_implied(asked, behind, room, leaves)?;
+        condition = equivalence(condition, right, asked.alloc)?;
+        rest = behind;
+    }
+    Ok((condition, rest))
+}
+
+/// Reads conditions with `=>` between, the last two first.
+#[cycle(condition)]
+fn read_implied<'a>(
+    asked: &Asked,
+    words: &'a [Word],
+    room: u8,
+    leaves: &mut Leaves,
+) -> Result<(Condition, &'a [Word]), Stop>
+    ensures { IfOk result (λ p. ConditionTaken 3 words.now p.0 p.1.now) }
+{
+    let (left, rest) = read_either(asked, words, room, leaves)?;
+    let Some(behind) = behind_mark(rest, Mark::Implies) else {
+        return Ok((left, rest));
+    };
+    let (right, rest) = read_implied(asked, behind, room, leaves)?;
+    Ok((implication(left, right, asked.alloc)?, rest))
+}
+
+/// Reads conditions with `\/` between.
+#[cycle(condition)]
+fn read_either<'a>(
     asked: &Asked,
     words: &'a [Word],
     room: u8,
@@ -106,7 +145,7 @@ fn deeper(asked: &Asked, words: &[Word], room: u8) -> Result<u8, Stop>
     Ok(room - 1)
 }
 
-/// Reads a term or `true`.
+/// Reads a term, with `=` or with `!=`, or `true`.
 fn read_leaf<'a>(
     asked: &Asked,
     words: &'a [Word],
@@ -119,6 +158,13 @@ fn read_leaf<'a>(
         return Ok((Condition::Always, behind));
     }
     let (observed, rest) = read_observed(asked, words)?;
+    if let Some(behind) = behind_mark(rest, Mark::Differs) {
+        let (value, rest) = value(behind, asked.end)?;
+        count_leaf(asked, words, leaves)?;
+        leaves.observed.push(observed)?;
+        let term = Condition::Holds(Term { observed, value });
+        return Ok((negation(term, asked.alloc)?, rest));
+    }
     let rest = mark(rest, Mark::Equals, asked.end)?;
     let (value, rest) = value(rest, asked.end)?;
     count_leaf(asked, words, leaves)?;
@@ -174,4 +220,18 @@ fn either(left: Condition, right: Condition, alloc: Global) -> Result<Condition,
 {
     let left = Box::new(alloc, left)?;
     Ok(Condition::Either(left, Box::new(alloc, right)?))
+}
+
+fn implication(left: Condition, right: Condition, alloc: Global) -> Result<Condition, AllocError>
+    ensures { IfOk result (IsImplication left right) }
+{
+    let left = Box::new(alloc, left)?;
+    Ok(Condition::Implies(left, Box::new(alloc, right)?))
+}
+
+fn equivalence(left: Condition, right: Condition, alloc: Global) -> Result<Condition, AllocError>
+    ensures { IfOk result (IsEquivalence left right) }
+{
+    let left = Box::new(alloc, left)?;
+    Ok(Condition::Equivalent(left, Box::new(alloc, right)?))
 }

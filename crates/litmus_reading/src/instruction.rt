@@ -7,13 +7,12 @@ ghost use Rattle.litmus_words.specs.declared.mnemonic.Mnemonic.TheVariants as na
 ghost use Rattle.rv_instr.specs.declared.instr.Instr.TheVariants as instr;
 ghost use Rattle.rv_instr.specs.declared.instr.ImmediateOp.TheVariants as immediate_op;
 
-use crate::operands::{operands_of, register_label, registers_label, two_registers};
-use litmus_tests::Comparison;
+use crate::operands::{last_label, operands_of, register_label, registers_label, two_registers};
 use litmus_words::{
     Fault, Mark, Mnemonic, Stop, Token, Word, bytes_of, mark, next, nothing, register, word_number,
 };
 use numbers::Reg;
-use rv_instr::{ImmediateOp, Instr};
+use rv_instr::{BranchOp, ImmediateOp, Instr};
 use rv_text::{Mnemonic as Row, instr_with};
 
 /// An instruction as it stands in a cell: a branch has the name of its target yet.
@@ -25,7 +24,7 @@ pub(crate) enum Written {
         value: u32,
     },
     Branch {
-        comparison: Comparison,
+        op: BranchOp,
         left: Reg,
         right: Reg,
         label: Word,
@@ -42,8 +41,11 @@ pub(crate) fn read_instruction(text: &[u8], words: &[Word], end: usize) -> Resul
     };
     match mnemonic {
         Mnemonic::Constant => constant(operands, end),
-        Mnemonic::Branch(comparison) => branch(comparison, operands, end),
-        Mnemonic::BranchZero(comparison) => branch_zero(comparison, operands, end),
+        Mnemonic::Branch(op) => branch(op, operands, end),
+        Mnemonic::SwappedBranch(op) => swapped_branch(op, operands, end),
+        Mnemonic::BranchZero(op) => branch_zero(op, operands, end),
+        Mnemonic::ZeroBranch(op) => zero_branch(op, operands, end),
+        Mnemonic::Jump => jump(operands, end),
         Mnemonic::Fence => fence(text, operands, end),
         _ => match straight(mnemonic, operands, end) {
             Ok(instr) => Ok(Written::Straight(instr)),
@@ -64,12 +66,25 @@ fn constant(operands: &[Word], end: usize) -> Result<Written, Stop>
 }
 
 /// `bne x5,x6,L0`.
-fn branch(comparison: Comparison, operands: &[Word], end: usize) -> Result<Written, Stop>
-    ensures { IfOk result (SpellsWritten (name.Branch comparison) (tokens operands.now)) }
+fn branch(op: BranchOp, operands: &[Word], end: usize) -> Result<Written, Stop>
+    ensures { IfOk result (SpellsWritten (name.Branch op) (tokens operands.now)) }
 {
     let (left, right, label) = registers_label(operands, end)?;
     Ok(Written::Branch {
-        comparison,
+        op,
+        left,
+        right,
+        label,
+    })
+}
+
+/// `bgt x5,x6,L0`: `blt x6,x5,L0`.
+fn swapped_branch(op: BranchOp, operands: &[Word], end: usize) -> Result<Written, Stop>
+    ensures { IfOk result (SpellsWritten (name.SwappedBranch op) (tokens operands.now)) }
+{
+    let (right, left, label) = registers_label(operands, end)?;
+    Ok(Written::Branch {
+        op,
         left,
         right,
         label,
@@ -77,13 +92,39 @@ fn branch(comparison: Comparison, operands: &[Word], end: usize) -> Result<Writt
 }
 
 /// `bnez x5,L0`.
-fn branch_zero(comparison: Comparison, operands: &[Word], end: usize) -> Result<Written, Stop>
-    ensures { IfOk result (SpellsWritten (name.BranchZero comparison) (tokens operands.now)) }
+fn branch_zero(op: BranchOp, operands: &[Word], end: usize) -> Result<Written, Stop>
+    ensures { IfOk result (SpellsWritten (name.BranchZero op) (tokens operands.now)) }
 {
     let (left, label) = register_label(operands, end)?;
     Ok(Written::Branch {
-        comparison,
+        op,
         left,
+        right: 0,
+        label,
+    })
+}
+
+/// `bgtz x5,L0`: `blt x0,x5,L0`.
+fn zero_branch(op: BranchOp, operands: &[Word], end: usize) -> Result<Written, Stop>
+    ensures { IfOk result (SpellsWritten (name.ZeroBranch op) (tokens operands.now)) }
+{
+    let (right, label) = register_label(operands, end)?;
+    Ok(Written::Branch {
+        op,
+        left: 0,
+        right,
+        label,
+    })
+}
+
+/// `j L0`: `beq x0,x0,L0`.
+fn jump(operands: &[Word], end: usize) -> Result<Written, Stop>
+    ensures { IfOk result (SpellsWritten name.Jump (tokens operands.now)) }
+{
+    let label = last_label(operands, end)?;
+    Ok(Written::Branch {
+        op: BranchOp::Beq,
+        left: 0,
         right: 0,
         label,
     })

@@ -88,13 +88,13 @@ fn step_of(text: &[u8], column: &Column, written: Written) -> Result<LitmusStep,
         Written::Straight(instr) => Ok(LitmusStep::Straight(instr)),
         Written::Constant { register, value } => Ok(LitmusStep::Constant { register, value }),
         Written::Branch {
-            comparison,
+            op,
             left,
             right,
             label,
         } => match place_of(text, column, label) {
             Some(target) => Ok(LitmusStep::Branch {
-                comparison,
+                op,
                 left,
                 right,
                 target,

@@ -17,7 +17,7 @@ steps_small (step ∷ steps) =
     one_small : (step : LitmusStep) → step_length step ≤ 2
     one_small (Straight instruction) = omega arith
     one_small (Constant register value) = omega arith
-    one_small (Branch comparison left right target) = omega arith
+    one_small (Branch op left right target) = omega arith
 
 pub thread_small : (locations : ℕ) (thread : Thread) → IsThread locations thread → thread_length thread ≤ 1064
 thread_small locations thread sound =

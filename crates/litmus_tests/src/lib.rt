@@ -11,6 +11,6 @@ pub mod test;
 pub mod value;
 
 pub use condition::{Condition, Observed, Quantifier, Term};
-pub use step::{Comparison, LitmusStep};
+pub use step::LitmusStep;
 pub use test::{LitmusTest, Location, RegisterStart, Thread};
 pub use value::Value;

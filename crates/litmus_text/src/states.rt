@@ -1,23 +1,23 @@
 //! The text of all final states.
 
-ghost use Rattle.std.specs.Prelude.{◌≡◌, ◌≤◌, ◌<◌, nat_lt, length, Some, slice_get, OnOk};
+ghost use Rattle.std.specs.Prelude.{◌≡◌, ◌≤◌, ◌<◌, ◌&&◌, nat_lt, length, Some, slice_get, OnOk};
 ghost use Rattle.std.specs.Io.KnownBytes.{Appends};
 ghost use Rattle.litmus_tests.specs.WellFormed.{IsWellFormed};
 ghost use Rattle.litmus_tests.specs.Conditions.{holding};
 ghost use Rattle.outcomes.specs.Found.{Told};
 ghost use Rattle.text_fields.specs.Each.{each_from};
 ghost use Rattle.litmus_text.specs.State.{told_line};
-ghost use Rattle.litmus_text.specs.States.{states_text, states_in, holds_of};
+ghost use Rattle.litmus_text.specs.States.{states_text, states_in, told_in, passes, holds_of};
 
 use crate::state::write_state;
 use crate::summary::{is_as_asked, write_head, write_summary};
-use litmus_images::holds_in;
+use litmus_images::{holds_in, passes};
 use litmus_tests::LitmusTest;
 use outcomes::Outcomes;
 use std::io;
 use std::io::Write;
 
-/// Writes the final states of a test, which are the outcomes of its image: a line for each, whether they are
+/// Writes the final states of a test, which are the outcomes of its image of which its filter holds: a line for each, whether they are
 /// as the test asks, of how many its condition holds, and the condition. Where it answers Ok, it has written
 /// exactly these lines.
 #[tactic(auto, unfolding(crate::specs::States::states_text))]
@@ -26,7 +26,7 @@ pub fn write_states<W: Write>(test: &LitmusTest, outcomes: &Outcomes, out: &mut 
     ensures { OnOk result (Appends (W.contents out.old) (W.contents out.new)
         (states_text test.now outcomes.now.listed)) }
 {
-    let count = outcomes.count();
+    let count = passing_of(test, outcomes);
     let held = held_of(test, outcomes);
     let as_asked = is_as_asked(test, held, count);
     write_head(test, count, out)?;
@@ -46,7 +46,7 @@ pub fn holds_of_any(test: &LitmusTest, outcomes: &Outcomes) -> bool
 fn held_of(test: &LitmusTest, outcomes: &Outcomes) -> usize
     requires { IsWellFormed test.now }
     ensures held { result ≡ holding (states_in test.now outcomes.now.listed) test.now.condition }
-    ensures few { result ≤ length outcomes.now.listed }
+    ensures few { result ≤ length (told_in test.now outcomes.now.listed) }
 {
     let mut held = 0;
     for index in 0..outcomes.count() {
@@ -55,25 +55,53 @@ fn held_of(test: &LitmusTest, outcomes: &Outcomes) -> usize
     held
 }
 
-/// Whether the condition holds of the outcome with this index.
+/// How many outcomes are final states of the test.
+fn passing_of(test: &LitmusTest, outcomes: &Outcomes) -> usize
+    requires { IsWellFormed test.now }
+    ensures { result ≡ length (told_in test.now outcomes.now.listed) }
+{
+    let mut count = 0;
+    for index in 0..outcomes.count() {
+        count += usize::from(passes_at(test, outcomes, index));
+    }
+    count
+}
+
+/// Whether the outcome with this index is a final state of the test.
+fn passes_at(test: &LitmusTest, outcomes: &Outcomes, index: usize) -> bool
+    requires sound { IsWellFormed test.now }
+    requires within { index < length outcomes.now.listed }
+    ensures { (told : Told) → slice_get outcomes.now.listed index ≡ Some told
+        → result ≡ passes test.now told }
+{
+    match outcomes.outcome(index) {
+        Some(outcome) => passes(test, outcome),
+        None => false,
+    }
+}
+
+/// Whether the outcome with this index is a final state of the test of which the condition holds.
 fn holds_at(test: &LitmusTest, outcomes: &Outcomes, index: usize) -> bool
     requires sound { IsWellFormed test.now }
     requires within { index < length outcomes.now.listed }
     ensures { (told : Told) → slice_get outcomes.now.listed index ≡ Some told
-        → result ≡ holds_of test.now told }
+        → result ≡ (passes test.now told && holds_of test.now told) }
 {
     match outcomes.outcome(index) {
-        Some(outcome) => holds_in(test, outcome),
+        Some(outcome) => passes(test, outcome) && holds_in(test, outcome),
         None => false,
     }
 }
 
 fn write_lines<W: Write>(test: &LitmusTest, outcomes: &Outcomes, out: &mut W) -> io::Result<()>
+    requires { IsWellFormed test.now }
     ensures { OnOk result (Appends (W.contents out.old) (W.contents out.new)
-        (each_from (told_line test.now) 0 outcomes.now.listed)) }
+        (each_from (told_line test.now) 0 (told_in test.now outcomes.now.listed))) }
 {
     for index in 0..outcomes.count() {
-        write_line_at(test, outcomes, index, out)?;
+        if passes_at(test, outcomes, index) {
+            write_line_at(test, outcomes, index, out)?;
+        }
     }
     Ok(())
 }

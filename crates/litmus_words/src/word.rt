@@ -47,7 +47,12 @@ pub enum Mark {
     Exists,
     ForAll,
     Locations,
-    /// `filter`, which is refused wherever it stands.
+    /// `=>`.
+    Implies,
+    /// `<=>`.
+    Equivalent,
+    /// `!=`.
+    Differs,
     Filter,
     /// `int`, `uint32_t`, `int32_t`, `unsigned`.
     Type,
