@@ -44,10 +44,10 @@ module _ (p : Told → Bool) (listed : List Told) (i n : ℕ) (b : Bool) (below 
       ]
 
 module _ (test : LitmusTest) where
-  held_after : ℕ → List Told → ℕ
+  abbrev held_after : ℕ → List Told → ℕ
   held_after n xs = fold (λ s told. s + cond (is_held test told) 1 0) n xs
 
-  holding_after : ℕ → List FinalState → ℕ
+  abbrev holding_after : ℕ → List FinalState → ℕ
   holding_after n states = fold (λ s state. s + cond (holds state test.condition) 1 0) n states
 
   one_told : (n : ℕ) (x : Told) (xs : List Told) (b : Bool)
