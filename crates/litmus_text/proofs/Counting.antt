@@ -1,6 +1,6 @@
 -- How many outcomes are final states, and of how many of these a condition holds, one after another.
 use Rattle.std.proofs.Common.{◌≡◌, ℕ, suc, ◌+◌, ◌<◌, ◌≤◌, ◌&&◌, Bool, true, false, List, [], ◌∷◌, ◌++◌, length, take, get_or, map}
-use Rattle.std.proofs.Common.{refl, sym, ap, subst, ◌∙◌, arith, slice_get, Option, Some, None, count_by, cond, flat_map, append-nil}
+use Rattle.std.proofs.Common.{refl, sym, ap, subst, ◌∙◌, arith, slice_get, Option, Some, count_by, cond, flat_map}
 use Rattle.std.specs.{List.fold, Int.from_bool}
 use Rattle.std.specs.Io.KnownBytes.{Appends}
 use Rattle.std.proofs.lemmas.{Bool.cases_Bool, List.take_all}
@@ -129,7 +129,3 @@ module _ (test : LitmusTest) where
       let one = member listed i within in
       flat_step (line_if test) old mid new listed i one.0 within before
       (subst (λ (t : Told). Appends mid new (line_if test t)) (sym (one.2 one.0)) (next one.0 one.1))
-
-pub nothing_appended : (old : Option (List ℕ)) → Appends old old []
-nothing_appended None = tt
-nothing_appended (Some xs) = sym (append-nil xs)
