@@ -113,6 +113,7 @@ fn read_words(
         threads: read_threads(text, rows, harts, &start, alloc)?,
         quantifier: question.quantifier,
         condition: question.condition,
+        filter: question.filter,
         observed,
     })
 }

@@ -86,15 +86,16 @@ fn read_label<'a>(text: &[u8], column: &mut Column, cell: &'a [Word]) -> Result<
 fn step_of(text: &[u8], column: &Column, written: Written) -> Result<LitmusStep, Stop> {
     match written {
         Written::Straight(instr) => Ok(LitmusStep::Straight(instr)),
+        Written::Fence(fence) => Ok(LitmusStep::Fence(fence)),
         Written::Constant { register, value } => Ok(LitmusStep::Constant { register, value }),
         Written::Branch {
-            comparison,
+            op,
             left,
             right,
             label,
         } => match place_of(text, column, label) {
             Some(target) => Ok(LitmusStep::Branch {
-                comparison,
+                op,
                 left,
                 right,
                 target,

@@ -1,5 +1,6 @@
 pub mod Cuts
 pub mod Mnemonics
+pub mod Numbers
 pub mod Parts
 pub mod Places
 pub mod Tokens

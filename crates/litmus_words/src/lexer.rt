@@ -3,7 +3,8 @@
 ghost use Rattle.std.specs.Prelude.{◌≤◌, ◌<◌, length, slice_range, All, IfOk, IfSome};
 ghost use Rattle.litmus_words.specs.Words.{IsMarkNamed, IsWordOf};
 
-use crate::names::{is_of_name, mark_of, name_token, number_token};
+use crate::names::{is_of_name, mark_of, name_token};
+use crate::numeral::number_token;
 use crate::refused::{Fault, Stop};
 use crate::word::{Mark, Token, Word};
 use std::alloc::Global;
@@ -134,21 +135,35 @@ pub fn name_end(text: &[u8], from: usize) -> usize
     at
 }
 
-/// The mark that begins there, and the byte behind it.
+/// The longest mark that begins there, and the byte behind it.
 fn mark_at(text: &[u8], at: usize) -> Option<(Mark, usize)>
     requires { at < length text.now }
     ensures on { IfSome result (λ p. at < p.1) }
     ensures inside { IfSome result (λ p. p.1 ≤ length text.now) }
     ensures mark { IfSome result (λ p. IsMarkNamed (slice_range text.now at p.1) p.0) }
 {
-    if let Some(mark) = mark_of(&text[at..at + 1]) {
-        return Some((mark, at + 1));
+    if let Some(found) = mark_of_length(text, at, 3) {
+        return Some(found);
     }
-    if text.len() - at < 2 {
+    if let Some(found) = mark_of_length(text, at, 2) {
+        return Some(found);
+    }
+    mark_of_length(text, at, 1)
+}
+
+/// The mark of so many bytes that begins there, and the byte behind it.
+fn mark_of_length(text: &[u8], at: usize, count: usize) -> Option<(Mark, usize)>
+    requires inside { at < length text.now }
+    requires some { (1 ≤ count) × (count ≤ 3) }
+    ensures on { IfSome result (λ p. at < p.1) }
+    ensures inside { IfSome result (λ p. p.1 ≤ length text.now) }
+    ensures mark { IfSome result (λ p. IsMarkNamed (slice_range text.now at p.1) p.0) }
+{
+    if text.len() - at < count {
         return None;
     }
-    match mark_of(&text[at..at + 2]) {
-        Some(mark) => Some((mark, at + 2)),
+    match mark_of(&text[at..at + count]) {
+        Some(mark) => Some((mark, at + count)),
         None => None,
     }
 }
