@@ -11,10 +11,11 @@ use crate::word::Token;
 pub fn number_token(word: &[u8]) -> Result<Token, Fault>
     ensures { IfOk result (SpellsToken word.now) }
 {
-    let number = match hexadecimal_digits(word) {
-        Some(digits) => number_of(16, digits)?,
-        None => number_of(10, word)?,
-    };
+    if let Some(digits) = hexadecimal_digits(word) {
+        let number = number_of(16, digits)?;
+        return Ok(Token::Number(number));
+    }
+    let number = number_of(10, word)?;
     Ok(Token::Number(number))
 }
 
