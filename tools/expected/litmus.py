@@ -81,9 +81,9 @@ def holds(test, condition, numbers):
     return truths[0] == truths[1] if kind == "iff" else (all if kind == "and" else any)(truths)
 
 
-def lines(test, states):
+def lines(test, found):
     quantifier, condition = test.question.quantifier, test.question.condition
-    states = [state for state in states if holds(test, test.question.filter, state[1])]
+    states = [state for state in found.states if holds(test, test.question.filter, state[1])]
     held = sum(holds(test, condition, numbers) for _, numbers in states)
     others = len(states) - held
     is_as_asked = {"exists": held > 0, "~exists": held == 0, "forall": others == 0}[quantifier]
@@ -97,6 +97,7 @@ def lines(test, states):
     yield f"Positive: {positive} Negative: {negative}"
     yield f"Condition {quantifier} ({condition_text(condition)})"
     yield f"Observation {shown(test.name)} {how} {held} {others}"
+    yield "stuck" if found.is_stuck else "always can end"
 
 
 def said(data, most=MOST_STATES, patience=MOST_STATES):
@@ -108,13 +109,13 @@ def said(data, most=MOST_STATES, patience=MOST_STATES):
     except Refused as refused:
         line, column = place(text, refused.at)
         return "", f"smtsim: litmus refused {line}:{column}: {refused.what}\n", 2
-    states, looked_at = final_states(test, patience)
-    least, greatest = (0, looked_at) if looked_at <= most else bounds(test)
+    found = final_states(test, patience)
+    least, greatest = (0, found.looked_at) if found.looked_at <= most else bounds(test)
     if least > most:
         return f"not complete: more than {most} states\n", "", 3
     if greatest > most:
         raise TooMany
-    return "".join(f"{line}\n" for line in lines(test, states)), "", 0
+    return "".join(f"{line}\n" for line in lines(test, found)), "", 0
 
 
 def test_file(name):

@@ -4,6 +4,8 @@ A state is a tuple of harts and the words that were written. A hart is a tuple: 
 its next instruction, its registers, and the address that it has reserved or None.
 """
 
+from typing import NamedTuple
+
 from instructions import ATOMIC_RESULTS, FORMS, MASK, RESULTS, SIZES, TAKEN, signed
 from litmus_words import LOADS, STORES
 
@@ -144,25 +146,46 @@ def result(name, registers, operands):
     return RESULTS[name](registers[operands[0]], registers[operands[1]])
 
 
+class Found(NamedTuple):
+    """All final states, sorted: why each hart stopped, and the numbers of what is looked at; how many states there were
+    on the way; and whether there is one from which no order of the harts leads to a final state."""
+
+    states: list
+    looked_at: int
+    is_stuck: bool
+
+
 def final_states(test, most):
-    """All final states, sorted: why each hart stopped, and the numbers of what is looked at; and how many states
-    there were on the way."""
     machine = Machine(test)
     waiting = [machine.first()]
-    seen, found = set(waiting), set()
+    before = {waiting[0]: []}
+    ends = []
     while waiting:
         state = waiting.pop()
         going = [number for number, hart in enumerate(state[0]) if hart[0] is None]
         if not going:
-            found.add(observed(machine, state))
+            ends.append(state)
         for number in going:
             there = machine.after(state, number)
-            if there not in seen:
-                seen.add(there)
+            if there not in before:
+                before[there] = []
                 waiting.append(there)
-        if len(seen) > most:
+            before[there].append(state)
+        if len(before) > most:
             raise TooMany
-    return sorted(found), len(seen)
+    found = sorted({observed(machine, state) for state in ends})
+    return Found(found, len(before), len(leading(before, ends)) < len(before))
+
+
+def leading(before, ends):
+    """Those states from which some order leads to one of these; `before` has the states right before each."""
+    waiting, seen = list(ends), set(ends)
+    while waiting:
+        for state in before[waiting.pop()]:
+            if state not in seen:
+                seen.add(state)
+                waiting.append(state)
+    return seen
 
 
 def settled(machine, state, number):
