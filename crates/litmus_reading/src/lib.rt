@@ -16,10 +16,11 @@
 //!
 //! Read in this order, behind `litmus_words`: `head` (what stands before the braces), `locations` (which there are),
 //! `start`, `rows` (of the table of harts), `operands`, `fences`, `instruction`, `thread` (what a hart does), `condition`,
-//! `question`, `observed`; `sound` (whether a test makes sense); `test`.
+//! `question`, `observed`; `sound` (whether a test makes sense); `test`; `faults` (what else is wrong with a text).
 #![tactic(auto)]
 
 mod condition;
+mod faults;
 mod fences;
 mod head;
 mod instruction;
@@ -33,5 +34,6 @@ mod start;
 mod test;
 mod thread;
 
+pub use faults::{FaultAt, MOST_FAULTS, faults_in};
 pub use litmus_words::{Fault, MOST_BYTES, Place, ReadingRefused, Shown};
 pub use test::read_litmus;
