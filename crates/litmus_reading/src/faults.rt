@@ -2,7 +2,6 @@
 
 ghost use Rattle.std.specs.Prelude.{◌<◌, ◌≤◌, length, All, IfOk, IfSome};
 ghost use Rattle.litmus_words.specs.Places.{IsPlaceIn};
-ghost use Rattle.litmus_words.specs.declared.place.Place.{Place as AnyPlace};
 
 use crate::condition::Asked;
 use crate::head::read_head;
@@ -24,7 +23,7 @@ use std::alloc::{AllocError, Global};
 pub const MOST_FAULTS: usize = 10;
 
 /// A fault of a text: the place at which it begins, and for some faults as much as is shown of the word there.
-#[derive(Clone, Copy, Drop)]
+#[derive(Drop)]
 pub struct FaultAt {
     pub place: Place,
     pub fault: Fault,
@@ -117,7 +116,7 @@ impl Faults {
         requires { from ≤ length text.now }
     {
         let mut from = from;
-        for _ in 0..MOST_FAULTS {
+        for _turn in 0..MOST_FAULTS {
             let Err(stop) = words_of(text, from, alloc) else {
                 return Ok(());
             };
@@ -165,13 +164,13 @@ impl Faults {
             Err(stop) => return self.put(stop, false),
         };
         self.see_harts(&start, harts)?;
-        if !self.see_rows(behind, harts, end)? {
+        let Some((rows, rest)) = self.see_rows(behind, harts, end)? else {
             return Ok(());
-        }
+        };
         let asked = Asked { harts, end, alloc };
-        self.see_question(&asked, behind_rows(behind), locations)?;
+        self.see_question(&asked, rest, locations)?;
         for hart in 0..harts {
-            self.see_column(text, behind, harts, hart, alloc)?;
+            self.see_column(text, rows, harts, hart, alloc)?;
         }
         Ok(())
     }
@@ -205,14 +204,20 @@ impl Faults {
         Ok(())
     }
 
-    /// Sees how many columns each row has. Answers whether each has its end.
-    fn see_rows(&mut self, words: &[Word], harts: u8, end: usize) -> Result<bool, AllocError> {
+    /// Sees how many columns each row has. Answers the words of the rows, and those behind them; none where a row
+    /// has no end.
+    fn see_rows<'a>(
+        &mut self,
+        words: &'a [Word],
+        harts: u8,
+        end: usize,
+    ) -> Result<Option<(&'a [Word], &'a [Word])>, AllocError> {
         let mut rest = words;
         while !asks(rest) {
             let (row, behind) = cut(rest, Mark::Semicolon);
             if row.len() == rest.len() {
                 self.put(Stop::at(end, Fault::NoCondition), false)?;
-                return Ok(false);
+                return Ok(None);
             }
             let (columns, harts) = (columns_of(row), usize::from(harts));
             if columns != harts {
@@ -221,7 +226,7 @@ impl Faults {
             }
             rest = behind;
         }
-        Ok(true)
+        Ok(Some((&words[..words.len() - rest.len()], rest)))
     }
 
     /// Sees what stands behind the rows, up to its first fault.
@@ -247,15 +252,15 @@ impl Faults {
     fn see_column(
         &mut self,
         text: &[u8],
-        words: &[Word],
+        rows: &[Word],
         harts: u8,
         hart: u8,
         alloc: Global,
     ) -> Result<(), AllocError> {
         let mut column = no_column(alloc);
         let mut is_read = true;
-        let mut rest = words;
-        while !asks(rest) && !rest.is_empty() {
+        let mut rest = rows;
+        while !rest.is_empty() {
             let (row, behind) = cut(rest, Mark::Semicolon);
             let is_row = columns_of(row) == usize::from(harts);
             if !is_row || !self.see_cell(text, &mut column, cell_of(row, hart))? {
@@ -329,25 +334,19 @@ fn behind_byte(text: &[u8], at: usize) -> usize
     end
 }
 
-/// The words behind the rows.
-fn behind_rows(words: &[Word]) -> &[Word] {
-    let mut rest = words;
-    while !asks(rest) && !rest.is_empty() {
-        rest = cut(rest, Mark::Semicolon).1;
-    }
-    rest
-}
-
 /// Whether a cell wasn't read for a name where an instruction is wanted.
 fn is_instruction(cell: &[Word], stop: Stop) -> bool {
-    let Stop::Fault {
-        at,
-        fault: Fault::NotOfSubset,
-    } = stop
-    else {
-        return false;
-    };
-    match behind_label(cell).first() {
+    match stop {
+        Stop::Memory => false,
+        Stop::Fault { at, fault } => {
+            fault == Fault::NotOfSubset && is_name_at(behind_label(cell), at)
+        }
+    }
+}
+
+/// Whether the words begin at this byte, with a name.
+fn is_name_at(words: &[Word], at: usize) -> bool {
+    match words.first() {
         Some(word) => word.start == at && is_label(*word),
         None => false,
     }
