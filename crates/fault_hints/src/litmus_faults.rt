@@ -44,7 +44,7 @@ fn add_first(first: &FaultAt, hint: &mut Hint, alloc: Global) -> Result<(), Allo
     let what = what_of(first, alloc)?;
     let cause = format!(in alloc; "column {column}: {what}")?;
     hint.add(Part::Cause, cause.as_bytes())?;
-    match in_place_of(first.word.as_str()) {
+    match other_of(first) {
         Some(other) => hint.add(Part::Expected, other.as_bytes()),
         None => Ok(()),
     }
@@ -54,11 +54,19 @@ fn add_first(first: &FaultAt, hint: &mut Hint, alloc: Global) -> Result<(), Allo
 fn add_further(one: &FaultAt, hint: &mut Hint, alloc: Global) -> Result<(), AllocError> {
     let (line, column) = (one.place.line, one.place.column);
     let what = what_of(one, alloc)?;
-    let said = match in_place_of(one.word.as_str()) {
+    let said = match other_of(one) {
         Some(other) => format!(in alloc; "line {line}, column {column}: {what}; {other}")?,
         None => format!(in alloc; "line {line}, column {column}: {what}")?,
     };
     hint.add_further(Part::Further, said.as_bytes())
+}
+
+/// What to write in place of what is at fault, where that is known.
+fn other_of(one: &FaultAt) -> Option<&'static str> {
+    match one.fault {
+        Fault::LinkRegister => Some("j and the label: a test has no addresses of code"),
+        _ => in_place_of(one.word.as_str()),
+    }
 }
 
 /// What is wrong, with the word at fault where there is one.

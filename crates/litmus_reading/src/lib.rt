@@ -4,7 +4,7 @@
 //! The subset: `RISCV NAME`; a string and lines `Key=..`, which are skipped; the start in braces (`0:x5=1; 0:x6=x;
 //! int y=2; [z]=1`), whose names are the locations; the harts (`P0 | P1 ;`); rows of cells with a label and an
 //! instruction or less (every one of RV32IMA behind which a hart goes on wherever it stands, the atomics with their
-//! ordering bits; branches, also those against 0 or of swapped registers, and j; li, mv, nop, fence with two sets or
+//! ordering bits; branches, also those against 0 or of swapped registers, j and jal x0; li, mv, nop, fence with two sets or
 //! none, fence.tso); `locations [..]` and `filter C`; and `exists`, `~exists` or `forall` with a condition of terms
 //! (with `=` or `!=`), `true`, `~`, `not`, `/\`, `\/`, `=>`, `<=>` and parentheses. Comments `(* .. *)` may be nested.
 //!
