@@ -70,7 +70,10 @@ pub struct Word {
 pub fn bytes_of(text: &[u8], word: Word) -> &[u8]
     ensures { (result.now ≡ []) ⊎ (result.now ≡ slice_range text.now word.start word.end) }
 {
-    text.get(word.start..word.end).unwrap_or(&[])
+    match text.get(word.start..word.end) {
+        Some(bytes) => bytes,
+        None => &[],
+    }
 }
 
 /// Whether the word is this mark.
