@@ -86,6 +86,7 @@ names_shown names.Place = refl
 names_shown names.Word = refl
 names_shown names.Line = refl
 names_shown names.Cause = refl
+names_shown names.Further = refl
 names_shown names.Expected = refl
 names_shown names.Meant = refl
 names_shown names.Usually = refl
