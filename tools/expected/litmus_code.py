@@ -63,6 +63,10 @@ def read_instruction(cell):
         return instruction
     *instruction, last = instruction
     name = instruction[0]
+    if name == "jal":
+        if last.number != 0:
+            raise Refused(last.at, "a link register other than x0")
+        return ("beq", 0, 0, instruction[2])
     if name in ("lr.w", "sc.w", *ATOMICS):
         if last.number != 0:
             raise Refused(last.at, SUBSET)
@@ -82,6 +86,10 @@ def read_operands(cell):
         return read_branch(cell, name)
     if name == "j":
         return ("beq", 0, 0, cell.take_kind("name"))
+    if name == "jal":
+        at, link = cell.at(), cell.take_register()
+        cell.take_mark(",")
+        return ("jal", link, cell.take_kind("name"), Looked(at, link))
     if name == "fence":
         read_fence(cell)
     if name in ("fence", "fence.tso"):

@@ -20,7 +20,7 @@ BRANCHES = {name: name for name in ("beq", "bne", "blt", "bge", "bltu", "bgeu")}
 SWAPPED = {"bgt": "blt", "ble": "bge", "bgtu": "bltu", "bleu": "bgeu"}
 WITH_ZERO = {"beqz": "beq", "bnez": "bne", "bltz": "blt", "bgez": "bge"}
 ZERO_WITH = {"bgtz": "blt", "blez": "bge"}
-MNEMONICS = {*LOADS, *STORES, "li", "lui", "mv", "nop", "j", "fence", "fence.tso"}
+MNEMONICS = {*LOADS, *STORES, "li", "lui", "mv", "nop", "j", "jal", "fence", "fence.tso"}
 MNEMONICS |= {*ORDERED, *IMMEDIATES, *THREE_REGISTERS, *BRANCHES, *SWAPPED, *WITH_ZERO, *ZERO_WITH}
 REGISTERS = {f"x{k}": k for k in range(32)} | {name: k for k, name in enumerate(NAMES)} | {"fp": 8}
 

@@ -143,6 +143,8 @@ SpellsBranch (name.ZeroBranch op) text (Branch op' left right label) = (op ≡ o
     × (left ≡ 0) × (text ≡ Register right ∷ Mark mark.Comma ∷ label.token ∷ [])
 SpellsBranch name.Jump text (Branch op' left right label) = (op' ≡ Beq) × (left ≡ 0) × (right ≡ 0)
     × (text ≡ label.token ∷ [])
+SpellsBranch name.JumpAndLink text (Branch op' left right label) = (op' ≡ Beq) × (left ≡ 0) × (right ≡ 0)
+    × (text ≡ Register 0 ∷ Mark mark.Comma ∷ label.token ∷ [])
 SpellsBranch mnemonic text written = ⊥
 
 -- The operands of an instruction of this name. Those of a fence with sets stand in `Fences`.

@@ -6,12 +6,14 @@ ghost use Rattle.litmus_reading.specs.Instructions.{SpellsInstruction, SpellsWri
 ghost use Rattle.litmus_words.specs.declared.mnemonic.Mnemonic.TheVariants as name;
 ghost use Rattle.rv_instr.specs.declared.instr.Instr.TheVariants as instr;
 ghost use Rattle.rv_instr.specs.declared.instr.ImmediateOp.TheVariants as immediate_op;
+ghost use Rattle.rv_instr.specs.declared.instr.BranchOp.TheVariants.{Beq};
+ghost use Rattle.litmus_reading.specs.declared.instruction.Written.TheVariants.{Branch};
 
 use crate::fences::{read_fence, total_store_order_fence};
 use crate::operands::{last_label, operands_of, register_label, registers_label, two_registers};
 use litmus_tests::Fence;
 use litmus_words::{
-    Fault, Mark, Mnemonic, Stop, Token, Word, mark, next, nothing, register, word_number,
+    Fault, Mark, Mnemonic, Stop, Token, Word, mark, next, nothing, register, start_of, word_number,
 };
 use numbers::Reg;
 use rv_instr::{BranchOp, ImmediateOp, Instr};
@@ -49,6 +51,7 @@ pub(crate) fn read_instruction(text: &[u8], words: &[Word], end: usize) -> Resul
         Mnemonic::BranchZero(op) => branch_zero(op, operands, end),
         Mnemonic::ZeroBranch(op) => zero_branch(op, operands, end),
         Mnemonic::Jump => jump(operands, end),
+        Mnemonic::JumpAndLink => jump_and_link(operands, end),
         Mnemonic::Fence => read_fence(text, operands, end),
         Mnemonic::TotalStoreOrderFence => total_store_order_fence(operands),
         _ => match straight(mnemonic, operands, end) {
@@ -126,12 +129,31 @@ fn jump(operands: &[Word], end: usize) -> Result<Written, Stop>
     ensures { IfOk result (SpellsWritten name.Jump (tokens operands.now)) }
 {
     let label = last_label(operands, end)?;
-    Ok(Written::Branch {
+    Ok(jump_to(label))
+}
+
+/// `jal x0,L0`, which is `j L0`. Another register would hold the address of the instruction behind it, and a test has no
+/// addresses of code.
+fn jump_and_link(operands: &[Word], end: usize) -> Result<Written, Stop>
+    ensures { IfOk result (SpellsWritten name.JumpAndLink (tokens operands.now)) }
+{
+    let (link, label) = register_label(operands, end)?;
+    if link != 0 {
+        return Err(Stop::at(start_of(operands, end), Fault::LinkRegister));
+    }
+    Ok(jump_to(label))
+}
+
+/// A branch that is taken.
+fn jump_to(label: Word) -> Written
+    ensures { result ≡ Branch Beq 0 0 label }
+{
+    Written::Branch {
         op: BranchOp::Beq,
         left: 0,
         right: 0,
         label,
-    })
+    }
 }
 
 /// The instructions behind which the hart goes on, but for `li` and fences.

@@ -4,7 +4,7 @@
 //! The subset: `RISCV NAME`; a string and lines `Key=..`, which are skipped; the start in braces (`0:x5=1; 0:x6=x;
 //! int y=2; [z]=1`), whose names are the locations; the harts (`P0 | P1 ;`); rows of cells with a label and an
 //! instruction or less (every one of RV32IMA behind which a hart goes on wherever it stands, the atomics with their
-//! ordering bits; branches, also those against 0 or of swapped registers, and j; li, mv, nop, fence with two sets or
+//! ordering bits; branches, also those against 0 or of swapped registers, j and jal x0; li, mv, nop, fence with two sets or
 //! none, fence.tso); `locations [..]` and `filter C`; and `exists`, `~exists` or `forall` with a condition of terms
 //! (with `=` or `!=`), `true`, `~`, `not`, `/\`, `\/`, `=>`, `<=>` and parentheses. Comments `(* .. *)` may be nested.
 //!
@@ -16,10 +16,12 @@
 //!
 //! Read in this order, behind `litmus_words`: `head` (what stands before the braces), `locations` (which there are),
 //! `start`, `rows` (of the table of harts), `operands`, `fences`, `instruction`, `thread` (what a hart does),
-//! `condition`, `question`, `observed`; `sound` (whether a test makes sense); `test`.
+//! `condition`, `question`, `observed`; `sound` (whether a test makes sense); `test`; `faults` (what else is wrong with a
+//! text).
 #![tactic(auto)]
 
 mod condition;
+mod faults;
 mod fences;
 mod head;
 mod instruction;
@@ -33,5 +35,6 @@ mod start;
 mod test;
 mod thread;
 
+pub use faults::{FaultAt, MOST_FAULTS, faults_in};
 pub use litmus_words::{Fault, MOST_BYTES, Place, ReadingRefused, Shown};
 pub use test::read_litmus;

@@ -44,6 +44,7 @@ abbrev pub IsOfRow : Row → Mnemonic → Type 0
 IsOfRow row (name.Row row') = (row ≡ row') × (is_taken row ≡ true)
 IsOfRow row (name.Branch op) = row ≡ row_of.Branch op
 IsOfRow row name.Fence = row ≡ row_of.Fence
+IsOfRow row name.JumpAndLink = row ≡ row_of.Jal
 IsOfRow row mnemonic = ⊥
 
 -- The names of branches against 0, of 0 against a register, and of two registers of which the second comes first.
@@ -71,6 +72,7 @@ abbrev pub IsNamed : List ℕ → Mnemonic → Type 0
 IsNamed text (name.Row row) = IsRowNamed text row × (is_taken row ≡ true)
 IsNamed text (name.Branch op) = IsRowNamed text (row_of.Branch op)
 IsNamed text name.Fence = IsRowNamed text row_of.Fence
+IsNamed text name.JumpAndLink = IsRowNamed text row_of.Jal
 IsNamed text name.Constant = text ≡ codes "li"
 IsNamed text name.Move = text ≡ codes "mv"
 IsNamed text name.Nothing = text ≡ codes "nop"

@@ -29,6 +29,8 @@ pub enum Mnemonic {
     ZeroBranch(BranchOp),
     /// `j`.
     Jump,
+    /// `jal`, of a link register and a label.
+    JumpAndLink,
     /// `fence.tso`, which has no operands.
     TotalStoreOrderFence,
 }
@@ -113,6 +115,7 @@ fn of_row(row: Row) -> Option<Mnemonic>
     match row {
         Row::Branch(op) => Some(Mnemonic::Branch(op)),
         Row::Fence => Some(Mnemonic::Fence),
+        Row::Jal => Some(Mnemonic::JumpAndLink),
         _ => {
             if is_taken(row) {
                 return Some(Mnemonic::Row(row));
