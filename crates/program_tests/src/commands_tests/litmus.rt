@@ -58,7 +58,7 @@ fn store_buffering_has_three_states(rt: HostRuntime) {
 
 #[test]
 fn why_it_has_no_fourth_is_told(rt: HostRuntime) {
-    let like = "Test SB Allowed\n*Observation SB Never 0 3\n*each has a cycle*";
+    let like = "Test SB Allowed\n*Observation SB Never 0 3\n*it has a cycle*";
     comes_to(&rt, SB, true, (0, like, ""), rt.alloc());
 }
 
