@@ -93,7 +93,8 @@ class Spelled:
                 columns[hart].append(f"lw x{5 + place},0({address})")
                 terms.append(f"{hart}:x{5 + place}={number}")
         terms += [f"v{location}={number}" for location, number in self.last.items() if number > 1]
-        return text_of(name, "".join(f"v{k}; " for k in self.last) + " ".join(starts), columns, terms)
+        asked = " /\\ ".join(terms) or "true"
+        return text_of(name, "".join(f"v{k}; " for k in self.last) + " ".join(starts), columns, f"exists ({asked})")
 
     def told(self):
         """Its edges by letters, which go by hart and place."""
@@ -102,12 +103,11 @@ class Spelled:
         return {(letters[a], relation, letters[b]) for a, relation, b in self.edges}
 
 
-def text_of(name, starts, columns, terms):
+def text_of(name, starts, columns, question):
     rows = itertools.zip_longest(*columns, fillvalue="")
     heads = " | ".join(f"P{k}" for k in range(len(columns)))
     body = "".join(" " + " | ".join(row) + " ;\n" for row in rows)
-    asked = " /\\ ".join(terms) or "true"
-    return f"RISCV {name}\n{{ {starts} }}\n {heads} ;\n{body}exists ({asked})\n"
+    return f"RISCV {name}\n{{ {starts} }}\n {heads} ;\n{body}{question}\n"
 
 
 def random_name(rng):
@@ -129,17 +129,48 @@ def random_text(rng):
     for number, hart in enumerate(harts):
         starts.append(f"{number}:x1=1; {number}:x2=2; {number}:x20=x; {number}:x21=y;")
         columns.append([instruction(*word) for word in words(hart)])
-    open_test = litmus_reading.read(text_of("random", " ".join(starts), columns, ["true"]))
-    events, registers = rng.choice(list(litmus_why.chosen_ways(open_test)))
+    open_test = litmus_reading.read(text_of("random", " ".join(starts), columns, "exists (true)"))
+    registers, last = random_end(rng, open_test)
     terms = [
         f"{number}:x{d}={registers[number][d]}"
-        for number, hart in enumerate(harts) for kind, _, d in words(hart) if kind in "RLAS" and rng.random() < 0.8
+        for number, hart in enumerate(harts) for kind, _, d in words(hart) if kind in "RLAS" and rng.random() < 0.9
     ]
-    for name in "xy":
-        numbers = [a.writes for _, _, a in events if a.location == name and a.writes is not None]
-        if numbers and rng.random() < 0.6:
-            terms.append(f"{name}={rng.choice(numbers)}")
-    return text_of("random", " ".join(starts), columns, terms)
+    terms += [f"{name}={number}" for name, number in last.items() if rng.random() < 0.8]
+    return text_of("random", " ".join(starts), columns, random_question(rng, terms))
+
+
+def random_end(rng, test):
+    """Registers and last numbers of a candidate: of one that has a cycle, isn't whole, isn't coherent or is none,
+    whichever was drawn, where one is met soon."""
+    ends = list(litmus_why.chosen_ways(test))
+    rng.shuffle(ends)
+    wanted = rng.choice(("cycle", "cycle", "atomicity", "coherence", "numbers"))
+    for events, registers in ends[:80] if wanted != "numbers" else []:
+        for candidate in itertools.islice(litmus_why.related(test, events), 200):
+            if excluded_by(candidate) == wanted:
+                return registers, candidate.last_numbers()
+    events, registers = ends[0]
+    numbers = {name: [a.writes for _, _, a in events if a.location == name and a.writes is not None] for name in "xy"}
+    return registers, {name: rng.choice(there) for name, there in numbers.items() if there}
+
+
+def excluded_by(candidate):
+    if not candidate.is_coherent():
+        return "coherence"
+    if any(candidate.broken()):
+        return "atomicity"
+    return "cycle" if candidate.cycles()[0] else "nothing"
+
+
+def random_question(rng, terms):
+    """What is asked for: that these terms hold, in one of several ways."""
+    rng.shuffle(terms)
+    some = rng.randrange(len(terms) + 1)
+    first, second = (" /\\ ".join(part) or "true" for part in (terms[:some], terms[some:]))
+    return rng.choice((
+        f"exists ({first} /\\ {second})", f"exists ({first} /\\ {second})", f"filter ({first}) exists ({second})",
+        f"exists (not ({first} => not ({second})))", f"exists ({first} /\\ (true <=> {second}))",
+    ))
 
 
 def instruction(kind, location, digit):

@@ -161,6 +161,10 @@ class Candidate:
                 after[p].add(q)
         return not has_cycle(after)
 
+    def last_numbers(self):
+        """What the write of each location writes that is last, where one is."""
+        return {self.events[w][2].location: self.events[w][2].writes for w in sorted(self.ranks, key=self.ranks.get)}
+
     def writes_in_order(self):
         """Whether a hart's writes to a location stand in it as they do in its program."""
         return all(
@@ -230,7 +234,8 @@ def chosen_ways(test):
     for chosen in itertools.product(*all_ways(test)):
         events = [(hart, place, a) for hart, (accesses, _) in enumerate(chosen) for place, a in enumerate(accesses)]
         registers = [registers for _, registers in chosen]
-        if may_hold(test, registers, test.question.condition) is not False:
+        asked = ("and", test.question.filter, test.question.condition)
+        if may_hold(test, registers, asked) is not False:
             yield events, registers
 
 
@@ -243,9 +248,13 @@ def may_hold(test, registers, condition):
         what, value = parts
         return registers[what[0]][what[1]] == number_of(test, value) if isinstance(what, tuple) else None
     told = [may_hold(test, registers, part) for part in parts]
+    if kind in ("not", "implies"):
+        told[0] = None if told[0] is None else not told[0]
     if kind == "not":
-        return None if told[0] is None else not told[0]
-    settled = kind == "or"
+        return told[0]
+    if kind == "iff":
+        return None if None in told else told[0] == told[1]
+    settled = kind in ("or", "implies")
     if settled in told:
         return settled
     return None if None in told else not settled

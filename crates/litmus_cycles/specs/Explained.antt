@@ -3,7 +3,7 @@ use Rattle.std.specs.Prelude.{◌≡◌, IsTrue, Bool, ◌&&◌, List}
 use Rattle.litmus_tests.specs.declared.test.LitmusTest.{LitmusTest}
 use Rattle.litmus_cycles.specs.declared.{event.MemoryEvent.MemoryEvent, explanation.Shown.Shown, showing.Judged.Judged}
 use Rattle.litmus_cycles.specs.declared.explanation.Shown.TheVariants.{Nothing, Cycle, Incoherent, Atomicity, Execution}
-use Rattle.litmus_cycles.specs.declared.showing.Judged.TheVariants.{Less, More, Last}
+use Rattle.litmus_cycles.specs.declared.showing.Judged.TheVariants.{Less, More, Last, Untold}
 use Rattle.litmus_cycles.specs.Executions.{is_candidate, is_cycle, is_broken, is_order, stays_at_one_location}
 use Rattle.litmus_cycles.specs.OneOrder.{is_coherent_execution, is_whole_execution}
 
@@ -25,9 +25,11 @@ abbrev pub IsJudged : LitmusTest → Judged → Type 0
 IsJudged test (Less shown cost) = IsShown test shown
 IsJudged test More = Unit {0}
 IsJudged test (Last shown) = IsShown test shown
+IsJudged test Untold = Unit {0}
 
 -- What is shown behind that, of what was shown before.
 abbrev pub IsKept : Judged → Shown → Shown → Type 0
 IsKept (Less shown cost) before after = after ≡ shown
 IsKept More before after = after ≡ before
 IsKept (Last shown) before after = after ≡ shown
+IsKept Untold before after = after ≡ before

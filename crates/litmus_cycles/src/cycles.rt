@@ -50,11 +50,6 @@ fn least_start(ways: &Ways) -> Option<usize> {
     Some(least?.1)
 }
 
-/// What the least cycle costs, if there is one.
-pub(crate) fn least_cost(ways: &Ways) -> Option<Cost> {
-    ways.cycle_cost(least_start(ways)?)
-}
-
 /// The events in an order in which each edge goes forward; fewer than all where there is a cycle.
 pub(crate) fn order_of(ways: &Ways, alloc: Global) -> Result<Vec<usize>, AllocError> {
     let mut order = Vec::new(alloc);

@@ -71,8 +71,8 @@ impl Findings {
         }
     }
 
-    /// Takes a candidate of which all is decided: where all that fit are wanted, the one with the least cycle is
-    /// kept, else the first.
+    /// Takes a candidate of which all is decided: where all that fit are wanted, one without a cycle is kept, else the
+    /// one with the least cycle; of another demand the first.
     pub fn take(
         &mut self,
         test: &LitmusTest,
@@ -104,6 +104,7 @@ impl Findings {
                 self.shown = shown;
                 self.is_over = true;
             }
+            Judged::Untold => self.is_whole = false,
         }
         if self.fitting >= MOST_FITTING {
             self.is_over = true;

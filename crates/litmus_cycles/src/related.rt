@@ -1,6 +1,6 @@
 //! Which events are related, and how one comes from one to another with the fewest edges of program order.
 
-use crate::event::MemoryEvent;
+use crate::event::{Edge, MemoryEvent, Relation};
 use crate::relating::{is_related, is_related_across};
 use std::alloc::{AllocError, Global};
 
@@ -11,7 +11,25 @@ pub(crate) struct Cost {
     pub edges: usize,
 }
 
+/// What no cycle costs.
+pub(crate) const NO_COST: Cost = Cost {
+    program_order: 0,
+    edges: 0,
+};
+
 impl Cost {
+    /// What a cycle of these edges costs.
+    pub fn of(edges: &[Edge]) -> Cost {
+        let program_order = edges
+            .iter()
+            .filter(|edge| edge.relation == Relation::ProgramOrder)
+            .count();
+        Cost {
+            program_order,
+            edges: edges.len(),
+        }
+    }
+
     pub fn is_less(self, other: Cost) -> bool {
         self.program_order < other.program_order
             || (self.program_order == other.program_order && self.edges < other.edges)

@@ -1,30 +1,32 @@
 //! What is shown of a candidate of which all is decided.
 
-ghost use Rattle.std.specs.Prelude.{◌≡◌, IfOk, IfSome};
+ghost use Rattle.std.specs.Prelude.{◌≡◌, IsTrue, IfOk, IfSome};
 ghost use Rattle.litmus_cycles.specs.Explained.{fits, IsJudged};
 
 use crate::checking::{is_broken, is_candidate, is_cycle, is_order, stays_at_one_location};
 use crate::coherence::{is_coherent, is_whole};
-use crate::cycles::{broken, least_cost, least_cycle, order_of};
+use crate::cycles::{broken, least_cycle, order_of};
 use crate::demand::Demand;
 use crate::event::MemoryEvent;
 use crate::explanation::Shown;
-use crate::related::{Cost, Ways};
+use crate::related::{Cost, NO_COST, Ways};
 use litmus_tests::LitmusTest;
 use std::alloc::{AllocError, Global};
 
 /// A candidate that meets its demand.
 #[derive(Drop)]
 pub(crate) enum Judged {
-    /// Its least cycle costs less than what is shown so far: it is shown.
+    /// It costs less than what is shown so far: it is shown.
     Less(Shown, Cost),
     /// It costs as much or more.
     More,
     /// It is shown, and no other one is looked at.
     Last(Shown),
+    /// Neither a cycle of it was found, nor an order without one.
+    Untold,
 }
 
-/// What is to be made of a candidate, where the least cycle so far costs this; none where it doesn't meet the demand.
+/// What is to be made of a candidate, where what is shown so far costs this; none where it doesn't meet the demand.
 pub(crate) fn judged(
     test: &LitmusTest,
     demand: Demand,
@@ -37,21 +39,7 @@ pub(crate) fn judged(
     match demand {
         Demand::Numbers | Demand::Writes => incoherent(test, events, alloc),
         Demand::Coherent => atomicity(test, events, alloc),
-        Demand::Whole => {
-            let ways = Ways::of(events, alloc)?;
-            match least_cost(&ways) {
-                None => execution(test, events, &ways, alloc),
-                Some(cost) if is_less(cost, least) => cycle(test, events, &ways, cost, alloc),
-                Some(_) => Ok(fits(test, events).then_some(Judged::More)),
-            }
-        }
-    }
-}
-
-fn is_less(cost: Cost, least: Option<Cost>) -> bool {
-    match least {
-        Some(other) => cost.is_less(other),
-        None => true,
+        Demand::Whole => fitting(test, events, least, alloc),
     }
 }
 
@@ -62,43 +50,58 @@ fn fits(test: &LitmusTest, events: &[MemoryEvent]) -> bool
     is_candidate(test, events) && is_coherent(events) && is_whole(events)
 }
 
-fn cycle(
+fn is_less(cost: Cost, least: Option<Cost>) -> bool {
+    match least {
+        Some(other) => cost.is_less(other),
+        None => true,
+    }
+}
+
+/// Of a candidate that fits its least cycle, or an order where it has none.
+fn fitting(
     test: &LitmusTest,
     events: &[MemoryEvent],
-    ways: &Ways,
-    cost: Cost,
+    least: Option<Cost>,
     alloc: Global,
 ) -> Result<Option<Judged>, AllocError>
     ensures { IfOk result (λ judged. IfSome judged (IsJudged test.now)) }
 {
-    let edges = least_cycle(events, ways, alloc)?;
-    if !is_cycle(events, edges.as_slice()) {
+    if !fits(test, events) {
         return Ok(None);
     }
-    if fits(test, events) {
+    let ways = Ways::of(events, alloc)?;
+    let edges = least_cycle(events, &ways, alloc)?;
+    if is_cycle(events, edges.as_slice()) {
+        let cost = Cost::of(edges.as_slice());
+        if !is_less(cost, least) {
+            return Ok(Some(Judged::More));
+        }
         let events = events.to_vec(alloc)?;
         return Ok(Some(Judged::Less(Shown::Cycle { events, edges }, cost)));
     }
-    Ok(None)
+    execution(test, events, &ways, least, alloc)
 }
 
+/// Of a candidate that fits and has no cycle the order of its events: it costs nothing.
 fn execution(
     test: &LitmusTest,
     events: &[MemoryEvent],
     ways: &Ways,
+    least: Option<Cost>,
     alloc: Global,
 ) -> Result<Option<Judged>, AllocError>
+    requires { IsTrue (fits test.now events.now) }
     ensures { IfOk result (λ judged. IfSome judged (IsJudged test.now)) }
 {
     let order = order_of(ways, alloc)?;
     if !is_order(events, order.as_slice()) {
-        return Ok(None);
+        return Ok(Some(Judged::Untold));
     }
-    if fits(test, events) {
-        let events = events.to_vec(alloc)?;
-        return Ok(Some(Judged::Last(Shown::Execution { events, order })));
+    if !is_less(NO_COST, least) {
+        return Ok(Some(Judged::More));
     }
-    Ok(None)
+    let events = events.to_vec(alloc)?;
+    Ok(Some(Judged::Less(Shown::Execution { events, order }, NO_COST)))
 }
 
 fn incoherent(
