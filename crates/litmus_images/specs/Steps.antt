@@ -5,7 +5,7 @@ use Rattle.rv_instr.specs.declared.instr.Instr.{Instr}
 use Rattle.rv_instr.specs.declared.instr.Instr.TheVariants as instr
 use Rattle.smt_model.specs.Basics.{below}
 use Rattle.litmus_tests.specs.declared.step.LitmusStep.{LitmusStep}
-use Rattle.litmus_tests.specs.declared.step.LitmusStep.TheVariants.{Straight, Constant, Branch}
+use Rattle.litmus_tests.specs.declared.step.LitmusStep.TheVariants.{Straight, Constant, Branch, Fence}
 use Rattle.litmus_tests.specs.WellFormed.{step_length}
 use Rattle.litmus_images.specs.Words.{constant_words, distance}
 
@@ -20,6 +20,7 @@ step_words steps index (Constant register value) = constant_words register value
 step_words steps index (Branch op left right target) =
     instr.Branch op left right
     (distance (step_place steps index) (step_place steps target)) ∷ []
+step_words steps index (Fence fence) = instr.Fence ∷ []
 
 abbrev pub words_at : List LitmusStep → ℕ → List Instr
 words_at steps index = option_map_or (λ step. step_words steps index step) (slice_get steps index) []

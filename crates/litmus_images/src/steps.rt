@@ -46,6 +46,7 @@ fn push_step(code: &mut Vec<Instr>, steps: &[LitmusStep], index: usize) -> Resul
             rs2: right,
             offset: distance(step_place(steps, index), step_place(steps, target)),
         })?,
+        LitmusStep::Fence(_) => code.push(Instr::Fence)?,
     }
     Ok(())
 }

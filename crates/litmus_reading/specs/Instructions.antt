@@ -11,7 +11,8 @@ use Rattle.rv_text.specs.declared.mnemonic.{Mnemonic.Mnemonic as Row}
 use Rattle.rv_text.specs.declared.mnemonic.Mnemonic.TheVariants as row_of
 use Rattle.rv_text.specs.declared.mnemonic.AtomicOp.TheVariants as atomic
 use Rattle.litmus_reading.specs.declared.instruction.Written.{Written}
-use Rattle.litmus_reading.specs.declared.instruction.Written.TheVariants.{Straight, Constant, Branch}
+use Rattle.litmus_reading.specs.declared.instruction.Written.TheVariants.{Straight, Constant, Branch, Fence}
+use Rattle.litmus_tests.specs.declared.fence.Fence.TheVariants.{Sets, TotalStoreOrder}
 use Rattle.litmus_words.specs.declared.mnemonic.Mnemonic.{Mnemonic}
 use Rattle.litmus_words.specs.declared.mnemonic.Mnemonic.TheVariants as name
 use Rattle.litmus_words.specs.declared.word.Token.{Token}
@@ -122,14 +123,12 @@ pub record SpellsRow (row : Row) (text : List Token) (instruction : Instr) : Typ
   pub spells : SpellsOperands row text operands
   pub made : instruction ≡ instr_with row operands
 
--- The operands of an instruction behind which the hart goes on. A fence may have any.
+-- The operands of an instruction behind which the hart goes on.
 abbrev pub SpellsStraight : Mnemonic → List Token → Instr → Type 0
 SpellsStraight (name.Row row) text instruction = SpellsRow row text instruction
 SpellsStraight name.Move text (instr.Immediate Addi rd rs1 imm) = (imm ≡ pos 0) × (text ≡ pair rd rs1)
 SpellsStraight name.Nothing text (instr.Immediate Addi rd rs1 imm) =
     (imm ≡ pos 0) × (rd ≡ 0) × (rs1 ≡ 0) × (text ≡ [])
-SpellsStraight name.Fence text instr.Fence = Unit {0}
-SpellsStraight name.TotalStoreOrderFence text instr.Fence = text ≡ []
 SpellsStraight mnemonic text instruction = ⊥
 
 -- A branch names its target by a word.
@@ -146,11 +145,14 @@ SpellsBranch name.Jump text (Branch op' left right label) = (op' ≡ Beq) × (le
     × (text ≡ label.token ∷ [])
 SpellsBranch mnemonic text written = ⊥
 
--- The operands of an instruction of this name.
+-- The operands of an instruction of this name. Those of a fence with sets stand in `Fences`.
 abbrev pub SpellsWritten : Mnemonic → List Token → Written → Type 0
 SpellsWritten mnemonic text (Straight instruction) = SpellsStraight mnemonic text instruction
 SpellsWritten name.Constant text (Constant register value) = SpellsConstant text register value
 SpellsWritten mnemonic text (Constant register value) = ⊥
+SpellsWritten name.Fence text (Fence (Sets before after)) = Unit {0}
+SpellsWritten name.TotalStoreOrderFence text (Fence TotalStoreOrder) = text ≡ []
+SpellsWritten mnemonic text (Fence fence) = ⊥
 SpellsWritten mnemonic text (Branch op left right label) = SpellsBranch mnemonic text (Branch op left right label)
 
 -- The words spell the instruction: its name, and behind it its operands.

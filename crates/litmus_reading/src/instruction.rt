@@ -7,9 +7,11 @@ ghost use Rattle.litmus_words.specs.declared.mnemonic.Mnemonic.TheVariants as na
 ghost use Rattle.rv_instr.specs.declared.instr.Instr.TheVariants as instr;
 ghost use Rattle.rv_instr.specs.declared.instr.ImmediateOp.TheVariants as immediate_op;
 
+use crate::fences::{read_fence, total_store_order_fence};
 use crate::operands::{last_label, operands_of, register_label, registers_label, two_registers};
+use litmus_tests::Fence;
 use litmus_words::{
-    Fault, Mark, Mnemonic, Stop, Token, Word, bytes_of, mark, next, nothing, register, word_number,
+    Fault, Mark, Mnemonic, Stop, Token, Word, mark, next, nothing, register, word_number,
 };
 use numbers::Reg;
 use rv_instr::{BranchOp, ImmediateOp, Instr};
@@ -19,6 +21,7 @@ use rv_text::{Mnemonic as Row, instr_with};
 #[derive(Clone, Copy, Drop)]
 pub(crate) enum Written {
     Straight(Instr),
+    Fence(Fence),
     Constant {
         register: Reg,
         value: u32,
@@ -46,7 +49,8 @@ pub(crate) fn read_instruction(text: &[u8], words: &[Word], end: usize) -> Resul
         Mnemonic::BranchZero(op) => branch_zero(op, operands, end),
         Mnemonic::ZeroBranch(op) => zero_branch(op, operands, end),
         Mnemonic::Jump => jump(operands, end),
-        Mnemonic::Fence => fence(text, operands, end),
+        Mnemonic::Fence => read_fence(text, operands, end),
+        Mnemonic::TotalStoreOrderFence => total_store_order_fence(operands),
         _ => match straight(mnemonic, operands, end) {
             Ok(instr) => Ok(Written::Straight(instr)),
             Err(stop) => Err(stop),
@@ -130,35 +134,7 @@ fn jump(operands: &[Word], end: usize) -> Result<Written, Stop>
     })
 }
 
-/// `fence`, alone or with two sets of accesses.
-fn fence(text: &[u8], operands: &[Word], end: usize) -> Result<Written, Stop>
-    ensures { IfOk result (SpellsWritten name.Fence (tokens operands.now)) }
-{
-    if operands.is_empty() {
-        return Ok(Written::Straight(Instr::Fence));
-    }
-    let rest = accesses(text, operands, end)?;
-    let rest = mark(rest, Mark::Comma, end)?;
-    let rest = accesses(text, rest, end)?;
-    nothing(rest, Fault::NotOfSubset)?;
-    Ok(Written::Straight(Instr::Fence))
-}
-
-/// A set of accesses, by its letters.
-fn accesses<'a>(text: &[u8], words: &'a [Word], end: usize) -> Result<&'a [Word], Stop> {
-    let (word, rest) = next(words, end)?;
-    if !bytes_of(text, word).iter().all(|letter| is_access(*letter)) {
-        return Err(Stop::at(word.start, Fault::NotOfSubset));
-    }
-    Ok(rest)
-}
-
-/// Input, output, reads and writes.
-fn is_access(letter: u8) -> bool {
-    letter == b'i' || letter == b'o' || letter == b'r' || letter == b'w'
-}
-
-/// The instructions behind which the hart goes on, but for `li` and `fence`.
+/// The instructions behind which the hart goes on, but for `li` and fences.
 fn straight(mnemonic: Mnemonic, operands: &[Word], end: usize) -> Result<Instr, Stop>
     ensures { IfOk result (SpellsStraight mnemonic (tokens operands.now)) }
 {
@@ -166,7 +142,6 @@ fn straight(mnemonic: Mnemonic, operands: &[Word], end: usize) -> Result<Instr, 
         Mnemonic::Row(row) => of_row(row, operands, end),
         Mnemonic::Move => move_register(operands, end),
         Mnemonic::Nothing => no_operation(operands),
-        Mnemonic::TotalStoreOrderFence => total_store_order_fence(operands),
         _ => Err(Stop::at(end, Fault::NotOfSubset)),
     }
 }
@@ -190,13 +165,6 @@ fn no_operation(operands: &[Word]) -> Result<Instr, Stop>
 {
     nothing(operands, Fault::NotOfSubset)?;
     Ok(addition(0, 0))
-}
-
-fn total_store_order_fence(operands: &[Word]) -> Result<Instr, Stop>
-    ensures { IfOk result (SpellsStraight name.TotalStoreOrderFence (tokens operands.now)) }
-{
-    nothing(operands, Fault::NotOfSubset)?;
-    Ok(Instr::Fence)
 }
 
 /// `addi rd,rs1,0`.

@@ -214,6 +214,7 @@ fn is_step(step: LitmusStep, steps: usize) -> bool
 {
     match step {
         LitmusStep::Straight(instr) => is_straight(instr),
+        LitmusStep::Fence(_) => true,
         LitmusStep::Constant { register, .. } => register < 32,
         LitmusStep::Branch {
             left,

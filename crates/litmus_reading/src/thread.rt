@@ -86,6 +86,7 @@ fn read_label<'a>(text: &[u8], column: &mut Column, cell: &'a [Word]) -> Result<
 fn step_of(text: &[u8], column: &Column, written: Written) -> Result<LitmusStep, Stop> {
     match written {
         Written::Straight(instr) => Ok(LitmusStep::Straight(instr)),
+        Written::Fence(fence) => Ok(LitmusStep::Fence(fence)),
         Written::Constant { register, value } => Ok(LitmusStep::Constant { register, value }),
         Written::Branch {
             op,

@@ -12,7 +12,8 @@ use Rattle.smt_model.specs.{Exec.Computed, Exec.exec, Exec.is_taken, Effects.eff
 use Rattle.smt_model.specs.Reservations.{holds_word, reservation_after}
 use Rattle.litmus_tests.specs.{Conditions.address_of, WellFormed.is_straight}
 use Rattle.litmus_tests.specs.declared.step.LitmusStep.{LitmusStep}
-use Rattle.litmus_tests.specs.declared.step.LitmusStep.TheVariants.{Straight, Constant, Branch}
+use Rattle.rv_instr.specs.declared.instr.Instr.TheVariants as instr
+use Rattle.litmus_tests.specs.declared.step.LitmusStep.TheVariants.{Straight, Constant, Branch, Fence}
 use Rattle.litmus_runs.specs.declared.access.Access.{Access}
 use Rattle.litmus_runs.specs.declared.{hart.Hart.Hart, finding.Found.Found}
 
@@ -102,3 +103,4 @@ HasTaken (Branch op left right target) before after =
     (after.registers ≡ before.registers) × (after.accesses ≡ before.accesses) × (after.reserved ≡ before.reserved)
     × (after.next ≡ behind_branch op (slice_index before.registers left) (slice_index before.registers right)
     target before.next)
+HasTaken (Fence fence) before after = HasExecuted instr.Fence before after

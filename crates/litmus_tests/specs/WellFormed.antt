@@ -7,7 +7,7 @@ use Rattle.rv_instr.specs.declared.instr.Instr.TheVariants as instr
 use Rattle.litmus_tests.specs.declared.value.Value.{Value}
 use Rattle.litmus_tests.specs.declared.value.Value.TheVariants.{Number, Address}
 use Rattle.litmus_tests.specs.declared.step.LitmusStep.{LitmusStep}
-use Rattle.litmus_tests.specs.declared.step.LitmusStep.TheVariants.{Straight, Constant, Branch}
+use Rattle.litmus_tests.specs.declared.step.LitmusStep.TheVariants.{Straight, Constant, Branch, Fence}
 use Rattle.litmus_tests.specs.declared.condition.{Observed.Observed, Term.Term}
 use Rattle.litmus_tests.specs.declared.condition.Observed.TheVariants as observed
 use Rattle.litmus_tests.specs.declared.condition.Condition.{Condition, Always, Holds, Not', Both', Either', Implies', Equivalent'}
@@ -40,6 +40,7 @@ abbrev pub IsStep : ℕ → LitmusStep → Type 0
 IsStep steps (Straight instruction) = IsInstructionInRange instruction × (is_straight instruction ≡ true)
 IsStep steps (Constant register value) = register < 32
 IsStep steps (Branch op left right target) = (left < 32) × (right < 32) × (target ≤ steps)
+IsStep steps (Fence fence) = Unit {0}
 
 abbrev pub IsStart : ℕ → RegisterStart → Type 0
 IsStart locations start = (0 < start.register) × (start.register < 32) × IsValue locations start.value
@@ -55,6 +56,7 @@ abbrev pub step_length : LitmusStep → ℕ
 step_length (Straight instruction) = 1
 step_length (Constant register value) = 2
 step_length (Branch op left right target) = 1
+step_length (Fence fence) = 1
 
 -- How many words of code a hart has: one before its starts, two for each of them, its steps, and one at its end.
 abbrev pub thread_length : Thread → ℕ

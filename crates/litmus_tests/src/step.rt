@@ -1,6 +1,7 @@
 ghost use Rattle.std.specs.Prelude.{◌≡◌, ◌≤◌};
 ghost use Rattle.litmus_tests.specs.WellFormed.{step_length};
 
+use crate::fence::Fence;
 use numbers::Reg;
 use rv_instr::{BranchOp, Instr};
 
@@ -22,6 +23,8 @@ pub enum LitmusStep {
         right: Reg,
         target: usize,
     },
+    /// A fence, with what it orders.
+    Fence(Fence),
 }
 
 impl LitmusStep {
@@ -31,7 +34,7 @@ impl LitmusStep {
         ensures small { result ≤ 2 }
     {
         match self {
-            LitmusStep::Straight(_) | LitmusStep::Branch { .. } => 1,
+            LitmusStep::Straight(_) | LitmusStep::Branch { .. } | LitmusStep::Fence(_) => 1,
             LitmusStep::Constant { .. } => 2,
         }
     }

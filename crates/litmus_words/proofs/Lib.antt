@@ -1,4 +1,5 @@
 pub mod Cutting
+pub mod Digits
 pub mod Naming
 pub mod Placing
 pub mod Taking

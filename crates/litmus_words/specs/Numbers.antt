@@ -1,6 +1,6 @@
 -- How a number is spelled in a litmus test: decimal, also with zeros before it, or hexadecimal behind `0x` or `0X`, its
 -- digits of either case. [herd reads decimal numbers so, with leading zeros or without]
-use Rattle.std.specs.Prelude.{◌≡◌, ◌⊎◌, ℕ, ◌+◌, ◌-◌, ◌*◌, ◌≤◌, ◌==◌, ◌||◌, Bool, true, if◌then◌else◌, nat_lt}
+use Rattle.std.specs.Prelude.{◌≡◌, ◌⊎◌, ℕ, ◌+◌, ◌-◌, ◌*◌, ◌≤◌, ◌==◌, Bool, true, if◌then◌else◌, nat_lt}
 use Rattle.std.specs.Prelude.{List, [], ◌∷◌, length, All}
 use Rattle.std.specs.Char.{is_ascii_digit, is_ascii_hexdigit}
 
@@ -22,12 +22,9 @@ pub record SpellsDigits (base : ℕ) (digits : List ℕ) (number : ℕ) : Type 0
   pub digits_all : All (λ digit. is_digit base digit ≡ true) digits
   pub value : number ≡ number_after base 0 digits
 
--- The letter behind the 0 of a hexadecimal number.
-abbrev pub is_hexadecimal_letter : ℕ → Bool
-is_hexadecimal_letter letter = letter == 120 || letter == 88
-
+-- The digits stand behind `0x` or `0X`.
 abbrev pub IsHexadecimal : List ℕ → List ℕ → Type 0
-IsHexadecimal text digits = (letter : ℕ) × (is_hexadecimal_letter letter ≡ true) × (text ≡ 48 ∷ letter ∷ digits)
+IsHexadecimal text digits = (text ≡ 48 ∷ 120 ∷ digits) ⊎ (text ≡ 48 ∷ 88 ∷ digits)
 
 abbrev pub SpellsNumeral : List ℕ → ℕ → Type 0
 SpellsNumeral text number = SpellsDigits 10 text number

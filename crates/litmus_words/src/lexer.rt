@@ -4,7 +4,7 @@ ghost use Rattle.std.specs.Prelude.{◌≤◌, ◌<◌, length, slice_range, All
 ghost use Rattle.litmus_words.specs.Words.{IsMarkNamed, IsWordOf};
 
 use crate::names::{is_of_name, mark_of, name_token};
-use crate::number::number_token;
+use crate::numeral::number_token;
 use crate::refused::{Fault, Stop};
 use crate::word::{Mark, Token, Word};
 use std::alloc::Global;

@@ -6,14 +6,14 @@
 //! (`specs/Parts`), and a place is one of the text (`specs/Places`).
 //!
 //! Read in this order: `place` (lines and columns), `refused` (which faults there are); `mnemonic` (the names of
-//! instructions, over those of `rv_text`), `word`, `names` (what a name is), `number`, `lexer` (a text is cut into words),
-//! `splitting` (words are, at a mark); `take` (one part at a time).
+//! instructions, over those of `rv_text`), `word`, `names` (what a name is), `numeral` (what a number is), `lexer` (a
+//! text is cut into words), `splitting` (words are, at a mark); `take` (one part at a time).
 #![tactic(auto)]
 
 mod lexer;
 mod mnemonic;
 mod names;
-mod number;
+mod numeral;
 mod place;
 mod refused;
 mod splitting;

@@ -19,4 +19,3 @@ pub use computed::Computed;
 pub use effect::effect_of;
 pub use execution::execute;
 pub use last::{last_effect, last_outcome};
-pub use operations::is_taken;

@@ -1,7 +1,7 @@
 //! What a word is that begins with a digit.
 
-ghost use Rattle.std.specs.Prelude.{◌≡◌, ◌≤◌, true, All, IfOk, IfSome};
-ghost use Rattle.litmus_words.specs.Numbers.{IsHexadecimal, SpellsDigits, digit_value, is_digit, is_hexadecimal_letter};
+ghost use Rattle.std.specs.Prelude.{◌≡◌, ◌≤◌, ◌+◌, ◌*◌, true, All, IfOk, IfSome};
+ghost use Rattle.litmus_words.specs.Numbers.{IsHexadecimal, SpellsDigits, digit_value, is_digit, number_after};
 ghost use Rattle.litmus_words.specs.Words.{SpellsToken};
 
 use crate::refused::Fault;
@@ -11,14 +11,15 @@ use crate::word::Token;
 pub fn number_token(word: &[u8]) -> Result<Token, Fault>
     ensures { IfOk result (SpellsToken word.now) }
 {
-    let number = match hexadecimal_digits(word) {
-        Some(digits) => number_of(16, digits)?,
-        None => number_of(10, word)?,
-    };
+    if let Some(digits) = hexadecimal_digits(word) {
+        let number = number_of(16, digits)?;
+        return Ok(Token::Number(number));
+    }
+    let number = number_of(10, word)?;
     Ok(Token::Number(number))
 }
 
-/// The digits behind `0x`.
+/// The digits behind `0x` or `0X`.
 fn hexadecimal_digits(word: &[u8]) -> Option<&[u8]>
     ensures { IfSome result (λ digits. IsHexadecimal word.now digits.now) }
 {
@@ -31,16 +32,13 @@ fn hexadecimal_digits(word: &[u8]) -> Option<&[u8]>
     let Some((letter, digits)) = rest.split_first() else {
         return None;
     };
-    if !is_hexadecimal_letter(*letter) {
-        return None;
+    if *letter == b'x' {
+        return Some(digits);
     }
-    Some(digits)
-}
-
-fn is_hexadecimal_letter(letter: u8) -> bool
-    ensures { result ≡ is_hexadecimal_letter letter }
-{
-    letter == b'x' || letter == b'X'
+    if *letter == b'X' {
+        return Some(digits);
+    }
+    None
 }
 
 /// The number that digits of a base spell, of which there is one at least.
@@ -54,15 +52,10 @@ fn number_of(base: u8, digits: &[u8]) -> Result<u32, Fault>
     if !are_digits(base, digits) {
         return Err(Fault::NotOfSubset);
     }
-    let mut number: u32 = 0;
-    for digit in digits {
-        let next = u64::from(number) * u64::from(base) + u64::from(digit_value(*digit));
-        if next > u64::from(u32::MAX) {
-            return Err(Fault::NumberTooLarge);
-        }
-        number = next as u32;
+    match number_after(base, digits) {
+        Some(number) => Ok(number),
+        None => Err(Fault::NumberTooLarge),
     }
-    Ok(number)
 }
 
 fn are_digits(base: u8, digits: &[u8]) -> bool
@@ -74,6 +67,33 @@ fn are_digits(base: u8, digits: &[u8]) -> bool
         }
     }
     true
+}
+
+/// The number that digits write, if it has 32 bits.
+fn number_after(base: u8, digits: &[u8]) -> Option<u32>
+    requires { base ≤ 16 }
+    ensures { IfSome result (λ number. number ≡ number_after base 0 digits.now) }
+{
+    let mut number = 0;
+    for digit in digits {
+        let Some(more) = with_digit(base, number, *digit) else {
+            return None;
+        };
+        number = more;
+    }
+    Some(number)
+}
+
+/// The number with one digit more.
+fn with_digit(base: u8, number: u32, digit: u8) -> Option<u32>
+    requires { base ≤ 16 }
+    ensures { IfSome result (λ more. more ≡ number * base + digit_value digit) }
+{
+    let more = u64::from(number) * u64::from(base) + u64::from(digit_value(digit));
+    if more > u64::from(u32::MAX) {
+        return None;
+    }
+    Some(more as u32)
 }
 
 /// Whether a byte is a digit of base 10, or of base 16 in either case.
