@@ -8,7 +8,7 @@ use crate::demand::Demand;
 use crate::event::MemoryEvent;
 use crate::explanation::Shown;
 use crate::related::Cost;
-use crate::showing::{Judged, judged};
+use crate::showing::{Judged, judge};
 use litmus_tests::LitmusTest;
 use std::alloc::{AllocError, Global};
 
@@ -82,7 +82,7 @@ impl Findings {
         requires { IsShown test.now self.old.shown }
         ensures { IsShown test.now self.new.shown }
     {
-        let Some(judged) = judged(test, self.demand, events, self.cost, alloc)? else {
+        let Some(judged) = judge(test, self.demand, events, self.cost, alloc)? else {
             return Ok(());
         };
         self.fitting = self.fitting.saturating_add(1);

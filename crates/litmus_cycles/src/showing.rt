@@ -27,7 +27,7 @@ pub(crate) enum Judged {
 }
 
 /// What is to be made of a candidate, where what is shown so far costs this; none where it doesn't meet the demand.
-pub(crate) fn judged(
+pub(crate) fn judge(
     test: &LitmusTest,
     demand: Demand,
     events: &[MemoryEvent],
