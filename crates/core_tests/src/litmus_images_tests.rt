@@ -10,8 +10,8 @@ use crate::rows::holds;
 use elf_image::Image;
 use litmus_images::{harts_of, holds_in, image_of, value_in, watch_of};
 use litmus_tests::{
-    Condition, LitmusStep, LitmusTest, Location, Observed, Quantifier, RegisterStart,
-    Term, Thread, Value,
+    Condition, LitmusStep, LitmusTest, Location, Observed, Quantifier, RegisterStart, Term, Thread,
+    Value,
 };
 use outcomes::{Outcomes, find_outcomes};
 use rv_instr::{BranchOp, Instr, LoadOp, RegisterOp, StoreOp};

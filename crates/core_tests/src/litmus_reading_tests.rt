@@ -3,7 +3,8 @@
 
 use litmus_reading::{MOST_BYTES, ReadingRefused, read_litmus};
 use litmus_tests::{
-    AccessSet, Condition, Fence, LitmusStep, LitmusTest, Observed, Quantifier, RegisterStart, Term, Value,
+    AccessSet, Condition, Fence, LitmusStep, LitmusTest, Observed, Quantifier, RegisterStart, Term,
+    Value,
 };
 use rv_instr::{BranchOp, ImmediateOp, Instr, LoadOp, Ordering, RegisterOp, StoreOp};
 use rv_word::AmoKind;
@@ -202,20 +203,15 @@ fn reads_message_passing_with_fences(rt: HostRuntime) {
         return;
     };
     assert!(rt; test.name.as_slice() == b"MP+fence.rw.rws".as_slice());
-    assert!(rt;
-        does(
-            &test,
-            0,
-            &[sw(5, 6, 0), fence(MEMORY, MEMORY), sw(5, 7, 0)]
-        )
-    );
+    assert!(rt; does(&test, 0, &[sw(5, 6, 0), fence(MEMORY, MEMORY), sw(5, 7, 0)]));
     assert!(rt; does(&test, 1, &[lw(5, 6), fence(READS, MEMORY), lw(7, 8)]));
     assert!(rt; test.observed.as_slice() == [register(1, 5), register(1, 7)].as_slice());
 }
 
 #[test]
 fn keeps_the_sets_of_fences(rt: HostRuntime) {
-    let text = "RISCV A\n{ }\nP0;\n fence;\n fence iorw,iorw;\n fence io,r;\n fence.tso;\nexists true";
+    let text =
+        "RISCV A\n{ }\nP0;\n fence;\n fence iorw,iorw;\n fence io,r;\n fence.tso;\nexists true";
     let Some(test) = read(&rt, text) else {
         assert!(rt; false);
         return;

@@ -3,7 +3,7 @@
 use Rattle.std.specs.Prelude.{◌≡◌, ◌⊎◌, ℕ, ◌==◌, Bool, true, List, [], ◌∷◌, slice_range}
 use Rattle.std.specs.List.{list_any}
 use Rattle.litmus_tests.specs.declared.fence.{AccessSet.AccessSet}
-use Rattle.litmus_tests.specs.declared.fence.Fence.TheVariants.{Sets, TotalStoreOrder}
+use Rattle.litmus_tests.specs.declared.fence.Fence.TheVariants.{Sets}
 use Rattle.litmus_words.specs.declared.word.Word.{Word}
 use Rattle.litmus_words.specs.declared.word.Token.TheVariants.{Mark}
 use Rattle.litmus_words.specs.declared.word.Mark.TheVariants as mark

@@ -11,9 +11,10 @@ ghost use Rattle.litmus_reading.specs.Grammar.{
   IsEquivalence,
 };
 ghost use Rattle.litmus_words.specs.Parts.{ObservedTaken};
+ghost use Rattle.litmus_tests.specs.declared.condition.Condition.{Holds};
 
 use litmus_tests::test::MOST_TERMS;
-use litmus_tests::{Condition, Observed, Term};
+use litmus_tests::{Condition, Observed, Term, Value};
 use litmus_words::{
     Fault, Mark, Stop, Token, Word, behind_mark, location, mark, next, register_but_zero, start_of,
     value,
@@ -70,7 +71,8 @@ fn read_implied<'a>(
         return Ok((left, rest));
     };
     let (right, rest) = read_implied(asked, behind, room, leaves)?;
-    Ok((implication(left, right, asked.alloc)?, rest))
+    let whole = implication(left, right, asked.alloc)?;
+    Ok((whole, rest))
 }
 
 /// Reads conditions with `\/` between.
@@ -145,7 +147,7 @@ fn deeper(asked: &Asked, words: &[Word], room: u8) -> Result<u8, Stop>
     Ok(room - 1)
 }
 
-/// Reads a term, with `=` or with `!=`, or `true`.
+/// Reads a term or `true`.
 fn read_leaf<'a>(
     asked: &Asked,
     words: &'a [Word],
@@ -157,13 +159,24 @@ fn read_leaf<'a>(
         count_leaf(asked, words, leaves)?;
         return Ok((Condition::Always, behind));
     }
+    read_term(asked, words, leaves)
+}
+
+/// Reads a term, with `=` or with `!=`.
+fn read_term<'a>(
+    asked: &Asked,
+    words: &'a [Word],
+    leaves: &mut Leaves,
+) -> Result<(Condition, &'a [Word]), Stop>
+    ensures { IfOk result (λ p. ConditionTaken 0 words.now p.0 p.1.now) }
+{
     let (observed, rest) = read_observed(asked, words)?;
     if let Some(behind) = behind_mark(rest, Mark::Differs) {
-        let (value, rest) = value(behind, asked.end)?;
+        let (other, rest) = value(behind, asked.end)?;
         count_leaf(asked, words, leaves)?;
         leaves.observed.push(observed)?;
-        let term = Condition::Holds(Term { observed, value });
-        return Ok((negation(term, asked.alloc)?, rest));
+        let whole = differing(observed, other, asked.alloc)?;
+        return Ok((whole, rest));
     }
     let rest = mark(rest, Mark::Equals, asked.end)?;
     let (value, rest) = value(rest, asked.end)?;
@@ -200,6 +213,13 @@ pub(crate) fn read_observed<'a>(
     let (register, rest) = register_but_zero(rest, asked.end)?;
     let hart = hart as u8;
     Ok((Observed::Register { hart, register }, rest))
+}
+
+/// That what is looked at doesn't hold this value.
+fn differing(observed: Observed, value: Value, alloc: Global) -> Result<Condition, AllocError>
+    ensures { IfOk result (IsNegation (Holds (record { observed = observed; value = value }))) }
+{
+    negation(Condition::Holds(Term { observed, value }), alloc)
 }
 
 fn negation(inner: Condition, alloc: Global) -> Result<Condition, AllocError>

@@ -99,4 +99,3 @@ pub(crate) fn total_store_order_fence(operands: &[Word]) -> Result<Written, Stop
     nothing(operands, Fault::NotOfSubset)?;
     Ok(Written::Fence(Fence::TotalStoreOrder))
 }
-

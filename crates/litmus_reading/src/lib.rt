@@ -10,13 +10,13 @@
 //!
 //! Proved: a test that is read is well formed; what is refused is refused at a place of the text. Of the parts: an
 //! instruction is the one that its words spell (`specs/Instructions`, `specs/Fences`), what its row is with the
-//! operands by `rv_text`, and a condition the one that its words are by the grammar (`specs/Grammar`). Only tested: what stands
-//! before the braces, that the entries of the start, the cells of a column and the labels go where they belong, what
-//! is observed, and which fault is told where.
+//! operands by `rv_text`, and a condition the one that its words are by the grammar (`specs/Grammar`). Only tested:
+//! what stands before the braces, that the entries of the start, the cells of a column and the labels go where they
+//! belong, what is observed, and which fault is told where.
 //!
 //! Read in this order, behind `litmus_words`: `head` (what stands before the braces), `locations` (which there are),
-//! `start`, `rows` (of the table of harts), `operands`, `fences`, `instruction`, `thread` (what a hart does), `condition`,
-//! `question`, `observed`; `sound` (whether a test makes sense); `test`.
+//! `start`, `rows` (of the table of harts), `operands`, `fences`, `instruction`, `thread` (what a hart does),
+//! `condition`, `question`, `observed`; `sound` (whether a test makes sense); `test`.
 #![tactic(auto)]
 
 mod condition;

@@ -1,4 +1,5 @@
-//! What tells final states apart: what is listed, and what the terms of the filter and of the condition look at, in order.
+//! What tells final states apart: what is listed, and what the terms of the filter and of the condition look at, in
+//! order.
 
 use crate::question::Question;
 use litmus_tests::Observed;

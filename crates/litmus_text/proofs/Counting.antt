@@ -1,6 +1,6 @@
 -- How many outcomes are final states, and of how many of these a condition holds, one after another.
 use Rattle.std.proofs.Common.{◌≡◌, ℕ, suc, ◌+◌, ◌<◌, ◌≤◌, ◌&&◌, Bool, true, false, List, [], ◌∷◌, ◌++◌, length, take, get_or, map}
-use Rattle.std.proofs.Common.{refl, sym, ap, subst, ◌∙◌, arith, slice_get, Option, Some, None, count_by, cond, filter, flat_map, append-nil}
+use Rattle.std.proofs.Common.{refl, sym, ap, subst, ◌∙◌, arith, slice_get, Option, Some, None, count_by, cond, flat_map, append-nil}
 use Rattle.std.specs.{List.fold, Int.from_bool}
 use Rattle.std.specs.Io.KnownBytes.{Appends}
 use Rattle.std.proofs.lemmas.Bool.{cases_Bool}
@@ -28,20 +28,20 @@ module _ (p : Told → Bool) (listed : List Told) (i n : ℕ) (b : Bool) (below 
       → (held + more ≡ count_by p (take (i + 1) listed)) × (held + more ≤ i + 1)
   counted held more is_more before =
       let one = member listed i inside in elim (cases_Bool b) [
-    | inl yes ↦
-        let some : more ≡ 1 = is_more ∙ ap from_bool yes in
-        rw some (
-          ap (λ k. k + 1) before.0 ∙ sym (count_by_more_yes p listed i one.0 inside (here true yes one.0)),
-          omega (arith, before.1),
-        )
-    | inr no ↦
-        let none : more ≡ 0 = is_more ∙ ap from_bool no in
-        let same : held + 0 ≡ held = omega arith in
-        rw (none, same) (
-          before.0 ∙ sym (count_by_more_no p listed i one.0 inside (here false no one.0)),
-          omega (arith, before.1),
-        )
-  ]
+        | inl yes ↦
+            let some : more ≡ 1 = is_more ∙ ap from_bool yes in
+            rw some (
+              ap (λ k. k + 1) before.0 ∙ sym (count_by_more_yes p listed i one.0 inside (here true yes one.0)),
+              omega (arith, before.1),
+            )
+        | inr no ↦
+            let none : more ≡ 0 = is_more ∙ ap from_bool no in
+            let same : held + 0 ≡ held = omega arith in
+            rw (none, same) (
+              before.0 ∙ sym (count_by_more_no p listed i one.0 inside (here false no one.0)),
+              omega (arith, before.1),
+            )
+      ]
 
 module _ (test : LitmusTest) where
   -- The condition holds of as many final states as there are outcomes that are held.

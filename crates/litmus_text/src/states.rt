@@ -131,11 +131,7 @@ fn write_line_at<W: Write>(
     }
 }
 
-fn write_if_passing<W: Write>(
-    test: &LitmusTest,
-    outcome: &Outcome,
-    out: &mut W,
-) -> io::Result<()>
+fn write_if_passing<W: Write>(test: &LitmusTest, outcome: &Outcome, out: &mut W) -> io::Result<()>
     requires { IsWellFormed test.now }
     ensures { OnOk result (Appends (W.contents out.old) (W.contents out.new)
         (if holds (final_state test.now outcome.now) test.now.filter then state_line test.now outcome.now else [])) }

@@ -29,7 +29,7 @@ read_either-loop-behind-preserved t c =
 pub read_implied-returns : goal.read_implied-returns
 read_implied-returns t c =
     implied _ _ _ _ _ _ _ c.in_ok-left.ensures c.in-Some.ensures.spelled c.in_ok-right.ensures
-    c.in_ok-implication.ensures
+    c.in_ok-whole.ensures
 
 pub read_implied-returns-in-None : goal.read_implied-returns-in-None
 read_implied-returns-in-None t c = at_higher 2 3 _ _ _ (omega arith) c.in_ok-left.ensures
