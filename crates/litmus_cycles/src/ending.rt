@@ -1,11 +1,13 @@
 //! Whether a condition holds where harts have chosen their runs, as far as that can be said.
 
 use crate::event::MemoryEvent;
+use crate::open::count_writes;
 use litmus_runs::{AllRuns, initial_number, word_of};
 use litmus_tests::{Condition, LitmusTest, Observed, Term};
 use numbers::Reg;
 
-/// The runs that the first harts have chosen, and what they have written in coherence order, once that is chosen.
+/// The runs that the first harts have chosen, and their events, once all have: the order of their writes as far as it is
+/// decided.
 #[derive(Clone, Copy, Drop)]
 pub(crate) struct Ending<'test, 'runs, 'chosen, 'events> {
     pub test: &'test LitmusTest,
@@ -55,25 +57,25 @@ impl Ending<'_, '_, '_, '_> {
         run.registers.get(usize::from(register)).copied()
     }
 
+    /// What the write of a location writes that is last in coherence order, or what is there at the start.
     fn last_number(&self, location: usize) -> Option<u32> {
-        match last_write(self.events?, location) {
-            Some(number) => Some(number),
-            None => initial_number(self.test, location),
+        let events = self.events?;
+        let count = count_writes(events, location);
+        if count == 0 {
+            return initial_number(self.test, location);
         }
+        written_last(events, location, count)
     }
 }
 
-/// What the write of a location that is last in coherence order writes.
-fn last_write(events: &[MemoryEvent], location: usize) -> Option<u32> {
-    let mut last = None;
-    let mut rank = 0_usize;
+/// What the write of a location with this place in coherence order writes, if it has its place.
+fn written_last(events: &[MemoryEvent], location: usize, rank: usize) -> Option<u32> {
     for event in events {
-        if event.location == location && event.writes.is_some() && rank <= event.rank {
-            rank = event.rank;
-            last = event.writes;
+        if event.location == location && event.writes.is_some() && event.rank == rank {
+            return event.writes;
         }
     }
-    last
+    None
 }
 
 fn negated(one: Option<bool>) -> Option<bool> {
