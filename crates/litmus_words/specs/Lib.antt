@@ -1,4 +1,5 @@
 pub mod Cuts
+pub mod Gaps
 pub mod Mnemonics
 pub mod Numbers
 pub mod Parts

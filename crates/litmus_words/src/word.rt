@@ -1,6 +1,6 @@
 //! The words of a text.
 
-ghost use Rattle.std.specs.Prelude.{◌≡◌, ◌⊎◌, [], true, slice_range};
+ghost use Rattle.std.specs.Prelude.{◌≡◌, ◌≢◌, ◌⊎◌, [], true, false, slice_range};
 ghost use Rattle.litmus_words.specs.declared.word.Token.TheVariants as token;
 
 use crate::mnemonic::Mnemonic;
@@ -78,7 +78,8 @@ pub fn bytes_of(text: &[u8], word: Word) -> &[u8]
 
 /// Whether the word is this mark.
 pub fn is_mark(word: Word, mark: Mark) -> bool
-    ensures { result ≡ true → word.token ≡ token.Mark mark }
+    ensures is { result ≡ true → word.token ≡ token.Mark mark }
+    ensures other { result ≡ false → word.token ≢ token.Mark mark }
 {
     match word.token {
         Token::Mark(found) => found == mark,
