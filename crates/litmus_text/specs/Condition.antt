@@ -19,7 +19,7 @@ binding (Implies' p first q second) = 1
 binding (Equivalent' p first q second) = 0
 
 -- What binds less tightly than it has to at its place has parentheses.
-abbrev pub binds_less : Condition → ℕ → Bool
+unfoldable pub binds_less : Condition → ℕ → Bool
 binds_less condition least = nat_lt (binding condition) least
 
 abbrev pub opening : Bool → List ℕ

@@ -141,6 +141,7 @@ fn put_joint<W: Write>(
 }
 
 /// Whether a condition binds less tightly than it has to at its place.
+#[tactic(auto, unfolding(crate::specs::Condition::binds_less))]
 fn binds_less(condition: &Condition, least: u8) -> bool
     ensures { result ≡ binds_less condition.now least }
 {
