@@ -1,5 +1,6 @@
 pub mod Bytes
 pub mod Cuts
+pub mod Gaps
 pub mod Mnemonics
 pub mod Numbers
 pub mod Parts
