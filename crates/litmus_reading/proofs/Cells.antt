@@ -39,17 +39,17 @@ module _ (p : Token → Bool) (m : Mark) (is : (token : Token) → p token ≡ t
   one_part [] lacks = refl
   one_part (word ∷ words) lacks =
       subst (λ (b : Bool). (if b then [] ∷ parted_by p words else onto_first word (parted_by p words))
-          ≡ (word ∷ words) ∷ []) (sym (off word words lacks))
+      ≡ (word ∷ words) ∷ []) (sym (off word words lacks))
       (ap (onto_first word) (one_part words (tail word words lacks)))
 
   first_part : (before : List Word) (stop : Word) (behind : List Word) → LacksMark m before
       → stop.token ≡ mark_token m → parted_by p (before ++ stop ∷ behind) ≡ before ∷ parted_by p behind
   first_part [] stop behind lacks e =
       subst (λ (b : Bool). (if b then [] ∷ parted_by p behind else onto_first stop (parted_by p behind))
-          ≡ [] ∷ parted_by p behind) (sym (on stop e)) refl
+      ≡ [] ∷ parted_by p behind) (sym (on stop e)) refl
   first_part (word ∷ words) stop behind lacks e =
       subst (λ (b : Bool). (if b then [] ∷ parted_by p (words ++ stop ∷ behind)
-          else onto_first word (parted_by p (words ++ stop ∷ behind))) ≡ (word ∷ words) ∷ parted_by p behind)
+      else onto_first word (parted_by p (words ++ stop ∷ behind))) ≡ (word ∷ words) ∷ parted_by p behind)
       (sym (off word words lacks))
       (ap (onto_first word) (first_part words stop behind (tail word words lacks) e))
 
@@ -60,17 +60,17 @@ module _ (p : Token → Bool) (m : Mark) (is : (token : Token) → p token ≡ t
       (sym (off word [] lacks)) refl
   one_ended word (next ∷ words) lacks =
       subst (λ (b : Bool). (if b then [] ∷ ended_by p (next ∷ words) else onto_first word (ended_by p (next ∷ words)))
-          ≡ (word ∷ next ∷ words) ∷ []) (sym (off word (next ∷ words) lacks))
+      ≡ (word ∷ next ∷ words) ∷ []) (sym (off word (next ∷ words) lacks))
       (ap (onto_first word) (one_ended next words (tail word (next ∷ words) lacks)))
 
   first_ended : (before : List Word) (stop : Word) (behind : List Word) → LacksMark m before
       → stop.token ≡ mark_token m → ended_by p (before ++ stop ∷ behind) ≡ before ∷ ended_by p behind
   first_ended [] stop behind lacks e =
       subst (λ (b : Bool). (if b then [] ∷ ended_by p behind else onto_first stop (ended_by p behind))
-          ≡ [] ∷ ended_by p behind) (sym (on stop e)) refl
+      ≡ [] ∷ ended_by p behind) (sym (on stop e)) refl
   first_ended (word ∷ words) stop behind lacks e =
       subst (λ (b : Bool). (if b then [] ∷ ended_by p (words ++ stop ∷ behind)
-          else onto_first word (ended_by p (words ++ stop ∷ behind))) ≡ (word ∷ words) ∷ ended_by p behind)
+      else onto_first word (ended_by p (words ++ stop ∷ behind))) ≡ (word ∷ words) ∷ ended_by p behind)
       (sym (off word words lacks))
       (ap (onto_first word) (first_ended words stop behind (tail word words lacks) e))
 

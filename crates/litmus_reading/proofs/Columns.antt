@@ -42,8 +42,8 @@ pub labels_more : (all : List Label) (column cells : List (List Word)) (cell : L
     → later ++ labels_from (length after) cells ≡ all
 labels_more all column cells cell steps after labels later next before added is =
     let many : length after ≡ length steps + length (if_some (instruction_of cell)) =
-        ap length added.added ∙ length-append steps added.written
-        ∙ ap (λ (n : ℕ). length steps + n) (as_many (if_some (instruction_of cell)) added.written added.spelled) in
+    ap length added.added ∙ length-append steps added.written
+    ∙ ap (λ (n : ℕ). length steps + n) (as_many (if_some (instruction_of cell)) added.written added.spelled) in
     ap (λ (t : List Label). t ++ labels_from (length after) cells) is
     ∙ append_assoc labels (label_at (length steps) cell) (labels_from (length after) cells)
     ∙ ap (λ (n : ℕ). labels ++ (label_at (length steps) cell ++ labels_from n cells)) many

@@ -121,7 +121,7 @@ one_start_more all before after entries hart register inside so_far is =
     let left : 32 - register ≡ suc (32 - (register + 1)) = omega (arith, inside) in
     ap (λ (t : List RegisterStart). t ++ starts_from (32 - (register + 1)) entries hart (register + 1)) is
     ∙ append_assoc before (start_at entries hart register)
-        (starts_from (32 - (register + 1)) entries hart (register + 1))
+    (starts_from (32 - (register + 1)) entries hart (register + 1))
     ∙ ap (λ (n : ℕ). before ++ starts_from n entries hart register) (sym left)
     ∙ so_far
 

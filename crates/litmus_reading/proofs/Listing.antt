@@ -16,8 +16,13 @@ add_listed : (words behind next end : List Word) (one : Observed) (more : List O
     → Takes behind (Mark mark.Semicolon ∷ []) next → ListedTaken next more end → ListedTaken words (one ∷ more) end
 add_listed words behind next end one more taken mark_behind listed = record {
   text = taken.text ++ Mark mark.Semicolon ∷ listed.text;
-  spells = (taken.text, Mark mark.Semicolon ∷ listed.text, taken.spells, refl,
-      inr (listed.text, refl, listed.spells));
+  spells = (
+    taken.text,
+    Mark mark.Semicolon ∷ listed.text,
+    taken.spells,
+    refl,
+    inr (listed.text, refl, listed.spells),
+  );
   takes = subst (λ (t : List Token). Takes words t end)
       (sym (append_assoc taken.text (Mark mark.Semicolon ∷ listed.text) (Mark mark.RightBracket ∷ [])))
       (one_behind_another words behind end taken.text

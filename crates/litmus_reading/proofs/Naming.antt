@@ -31,12 +31,12 @@ told_all {A} all before rest none so_far =
 pub names_here : (text : List ℕ) (names words : List Word) (i : ℕ) (d : Word) → i < length words
     → is_new text names (get_or words i d) ≡ true
     → new_names text names (drop i words)
-        ≡ get_or words i d ∷ new_names text (names ++ get_or words i d ∷ []) (drop (i + 1) words)
+    ≡ get_or words i d ∷ new_names text (names ++ get_or words i d ∷ []) (drop (i + 1) words)
 names_here text names words i d inside new =
     ap (new_names text names) (drop_here words i d inside)
     ∙ ap (λ (b : Bool). if b
-        then get_or words i d ∷ new_names text (names ++ get_or words i d ∷ []) (drop (i + 1) words)
-        else new_names text names (drop (i + 1) words)) new
+    then get_or words i d ∷ new_names text (names ++ get_or words i d ∷ []) (drop (i + 1) words)
+    else new_names text names (drop (i + 1) words)) new
 
 pub names_later : (text : List ℕ) (names words : List Word) (i : ℕ) (d : Word) → i < length words
     → is_new text names (get_or words i d) ≡ false
@@ -44,8 +44,8 @@ pub names_later : (text : List ℕ) (names words : List Word) (i : ℕ) (d : Wor
 names_later text names words i d inside old =
     ap (new_names text names) (drop_here words i d inside)
     ∙ ap (λ (b : Bool). if b
-        then get_or words i d ∷ new_names text (names ++ get_or words i d ∷ []) (drop (i + 1) words)
-        else new_names text names (drop (i + 1) words)) old
+    then get_or words i d ∷ new_names text (names ++ get_or words i d ∷ []) (drop (i + 1) words)
+    else new_names text names (drop (i + 1) words)) old
 
 pub index_here : (text : List ℕ) (names : List Word) (word : Word) (i : ℕ) (d : Word) → i < length names
     → same_bytes text (get_or names i d) word ≡ true → index_from i text (drop i names) word ≡ Some i

@@ -72,13 +72,13 @@ rows_before words rest count so_far many =
     let long : length words ≡ length so_far.0 + length rest = ap length so_far.1 ∙ length-append so_far.0 rest in
     let same : length so_far.0 ≡ count = omega (arith, long, many) in
     let front : so_far.0 ≡ take count words = sym (take_front so_far.0 rest)
-        ∙ ap (λ (n : ℕ). take n (so_far.0 ++ rest)) same ∙ ap (take count) (sym so_far.1) in
+    ∙ ap (λ (n : ℕ). take n (so_far.0 ++ rest)) same ∙ ap (take count) (sym so_far.1) in
     so_far.1 ∙ ap (λ (t : List Word). t ++ rest) front
 
 pub location_more : (text : List ℕ) (entries : List Entry) (names : List Word) (i : ℕ) (d : Word)
     (before after : List Location) (location : Location) → i < length names
     → ((more : List Location) → AreLocations text entries i (drop i names) more
-        → AreLocations text entries 0 names (before ++ more))
+    → AreLocations text entries 0 names (before ++ more))
     → location.name.items ≡ bytes_in text (get_or names i d) → location.initial ≡ initial_of entries i
     → after ≡ before ++ location ∷ []
     → (more : List Location) → AreLocations text entries (i + 1) (drop (i + 1) names) more
@@ -91,7 +91,7 @@ location_more text entries names i d before after location inside so_far named h
 pub locations_all : (text : List ℕ) (entries : List Entry) (names : List Word) (i : ℕ) (before : List Location)
     → length names ≤ i
     → ((more : List Location) → AreLocations text entries i (drop i names) more
-        → AreLocations text entries 0 names (before ++ more))
+    → AreLocations text entries 0 names (before ++ more))
     → AreLocations text entries 0 names before
 locations_all text entries names i before past so_far =
     subst (AreLocations text entries 0 names) (append-nil before)

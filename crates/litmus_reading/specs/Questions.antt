@@ -24,7 +24,7 @@ AreListed [] text = text ≡ []
 AreListed (one ∷ others) text = (first : List Token) × (rest : List Token) × SpellsObserved first one
     × (text ≡ first ++ rest)
     × (((rest ≡ []) × (others ≡ []))
-        ⊎ ((more : List Token) × (rest ≡ Mark mark.Semicolon ∷ more) × AreListed others more))
+    ⊎ ((more : List Token) × (rest ≡ Mark mark.Semicolon ∷ more) × AreListed others more))
 
 -- These, up to the bracket, stand before the rest.
 pub record ListedTaken (words : List Word) (listed : List Observed) (rest : List Word) : Type 0 where
@@ -53,7 +53,7 @@ MayFilter words filter rest = ((filter ≡ Always) × (words ≡ rest)) ⊎ Filt
 abbrev pub IsBefore : List Word → Bool → List Observed → Condition → List Word → Type 0
 IsBefore words has listed filter rest = (between : List Word)
     × ((MayList words has listed between × MayFilter between filter rest)
-        ⊎ (FilterTaken words filter between × MayList between has listed rest))
+    ⊎ (FilterTaken words filter between × MayList between has listed rest))
 
 -- A quantifier, and a condition with nothing behind it.
 pub record IsAsked (words : List Word) (quantifier : Quantifier) (condition : Condition) : Type 0 where

@@ -64,7 +64,7 @@ AreEntries [] text = text ≡ []
 AreEntries (entry ∷ others) text = (first : List Token) × (rest : List Token) × SpellsEntry first entry
     × (text ≡ first ++ rest)
     × (((rest ≡ []) × (others ≡ []))
-        ⊎ ((more : List Token) × (rest ≡ Mark mark.Semicolon ∷ more) × AreEntries others more))
+    ⊎ ((more : List Token) × (rest ≡ Mark mark.Semicolon ∷ more) × AreEntries others more))
 
 -- What a register of a hart holds, where an entry says so, and a location.
 abbrev pub start_in : List Entry → ℕ → ℕ → Option Value

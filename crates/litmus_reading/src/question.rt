@@ -130,10 +130,7 @@ fn filter_first<'a>(asked: &Asked, words: &'a [Word]) -> Result<(Before, &'a [Wo
 }
 
 /// Reads `locations`, where it stands, and says whether it does.
-fn may_list<'a>(
-    asked: &Asked,
-    words: &'a [Word],
-) -> Result<(bool, Vec<Observed>, &'a [Word]), Stop>
+fn may_list<'a>(asked: &Asked, words: &'a [Word]) -> Result<(bool, Vec<Observed>, &'a [Word]), Stop>
     ensures { IfOk result (λ p. MayList words.now p.0 p.1.items p.2.now) }
 {
     if begins_with(words, Mark::Locations) {
@@ -170,10 +167,7 @@ fn read_filter<'a>(
 }
 
 /// Reads `locations [0:x7; x;]`.
-fn read_locations<'a>(
-    asked: &Asked,
-    words: &'a [Word],
-) -> Result<(Vec<Observed>, &'a [Word]), Stop>
+fn read_locations<'a>(asked: &Asked, words: &'a [Word]) -> Result<(Vec<Observed>, &'a [Word]), Stop>
     ensures { IfOk result (λ p. ListTaken words.now p.0.items p.1.now) }
 {
     let behind = mark(words, Mark::Locations, asked.end)?;
@@ -182,10 +176,7 @@ fn read_locations<'a>(
 }
 
 /// Reads `0:x7; x;]`.
-fn read_listed<'a>(
-    asked: &Asked,
-    words: &'a [Word],
-) -> Result<(Vec<Observed>, &'a [Word]), Stop>
+fn read_listed<'a>(asked: &Asked, words: &'a [Word]) -> Result<(Vec<Observed>, &'a [Word]), Stop>
     ensures { IfOk result (λ p. ListedTaken words.now p.0.items p.1.now) }
 {
     let mut listed = Vec::new(asked.alloc);

@@ -69,7 +69,10 @@ fn add_entry(entries: &mut Vec<Entry>, entry: Entry) -> Result<(), Stop>
 {
     let (at, before) = match entry {
         Entry::Register(start) => {
-            (start.at, start_in(entries.as_slice(), start.hart, start.register))
+            (
+                start.at,
+                start_in(entries.as_slice(), start.hart, start.register),
+            )
         }
         Entry::Location(initial) => (initial.at, initial_in(entries.as_slice(), initial.location)),
     };

@@ -16,8 +16,8 @@ use crate::start::{Entry, check_harts, initial_of, read_start, starts_of};
 use crate::thread::read_steps;
 use litmus_tests::{LitmusTest, Location, Thread};
 use litmus_words::{
-    Fault, MOST_BYTES, Mark, ReadingRefused, Shown, Stop, Word, bytes_of, cut, is_mark, name_end, next,
-    place_of, start_of, words_of,
+    Fault, MOST_BYTES, Mark, ReadingRefused, Shown, Stop, Word, bytes_of, cut, is_mark, name_end,
+    next, place_of, start_of, words_of,
 };
 use std::alloc::Global;
 use std::str;

@@ -89,12 +89,7 @@ fn add_step(text: &[u8], steps: &mut Vec<Written>, instruction: &[Word]) -> Resu
 }
 
 /// Reads the label of a cell, if it has one, before the step of this index.
-fn add_label(
-    text: &[u8],
-    labels: &mut Vec<Label>,
-    place: usize,
-    cell: &[Word],
-) -> Result<(), Stop>
+fn add_label(text: &[u8], labels: &mut Vec<Label>, place: usize, cell: &[Word]) -> Result<(), Stop>
     ensures { OnOk result (labels.new.items ≡ labels.old.items ++ label_at place cell.now) }
 {
     let Some(word) = label_of(cell) else {

@@ -31,8 +31,8 @@ read_implied-returns t c =
     implied _ _ _ _ _ _ _ c.in_ok-left.ensures c.in-Some.ensures.spelled c.in_ok-right.ensures
     c.in_ok-whole.ensures
 
-pub read_implied-returns-in-None : goal.read_implied-returns-in-None
-read_implied-returns-in-None t c = at_higher 2 3 _ _ _ (omega arith) c.in_ok-left.ensures
+pub read_implied-returns-in_default : goal.read_implied-returns-in_default
+read_implied-returns-in_default t c = at_higher 2 3 _ _ _ (omega arith) c.in_ok-left.ensures
 
 pub read_condition-loop-behind-init : goal.read_condition-loop-behind-init
 read_condition-loop-behind-init t c = at_higher 3 4 _ _ _ (omega arith) c.in_ok-condition.ensures
