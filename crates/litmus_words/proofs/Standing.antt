@@ -1,7 +1,7 @@
 -- Words and what stands between them, one more at each turn.
-use Rattle.std.proofs.Common.{◌≡◌, ℕ, ◌+◌, ◌<◌, ◌≤◌, List, [], ◌∷◌, ◌++◌, length, sym, ap, ◌∙◌, subst, append_assoc, append-nil}
+use Rattle.std.proofs.Common.{◌≡◌, ℕ, ◌+◌, ◌-◌, ◌<◌, ◌≤◌, arith, List, [], ◌∷◌, ◌++◌, length, sym, ap, ◌∙◌, subst, append_assoc, append-nil}
 use Rattle.litmus_words.specs.declared.word.Word.{Word}
-use Rattle.litmus_words.specs.Gaps.{IsGap, nothing, blank, comment, StandFrom}
+use Rattle.litmus_words.specs.Gaps.{IsGap, nothing, blank, comment, StandFrom, IsRestOf, closes_last, closes, Closes}
 use Rattle.litmus_words.specs.Words.{IsWordOf}
 
 joined : (text : List ℕ) (a b c : ℕ) → IsGap text a b → IsGap text b c → IsGap text a c
@@ -42,3 +42,17 @@ pub last_word : (text : List ℕ) (from at : ℕ) (words : List Word) → at ≡
     → ((more : List Word) → StandFrom text at more → StandFrom text from (words ++ more)) → StandFrom text from words
 last_word text from at words over so_far =
     subst (StandFrom text from) (append-nil words) (so_far [] (subst (IsGap text at) over (nothing at)))
+
+-- comments in one another, closed
+pub ends_rest : (text : List ℕ) (depth at : ℕ) → 1 ≤ depth → depth ≤ 1 → Closes text at
+    → IsRestOf text depth at (at + 2)
+ends_rest text depth at some most here =
+    let one : 1 ≡ depth = omega (arith, some, most) in
+    subst (λ (d : ℕ). IsRestOf text d at (at + 2)) one (closes_last at here)
+
+pub closes_one : (text : List ℕ) (depth at to : ℕ) → 1 < depth → Closes text at
+    → IsRestOf text (depth - 1) (at + 2) to → IsRestOf text depth at to
+closes_one text depth at to more here rest =
+    let same : depth - 1 + 1 ≡ depth = omega (arith, more) in
+    let some : 1 ≤ depth - 1 = omega (arith, more) in
+    subst (λ (d : ℕ). IsRestOf text d at to) same (closes (depth - 1) at to some here rest)
