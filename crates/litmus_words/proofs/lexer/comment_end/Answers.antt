@@ -1,4 +1,4 @@
-use Rattle.std.proofs.Common.{ℕ, ◌<◌, ◌≤◌, ◌+◌, ◌-◌, arith}
+use Rattle.std.proofs.Common.{◌<◌, ◌+◌, arith}
 use Rattle.litmus_words.specs.Gaps.{Closes, Opens, opens, passes}
 use Rattle.litmus_words.proofs.Standing.{closes_one, ends_rest}
 use Rattle.litmus_words.proofs.lexer.comment_end.Goals as goal
