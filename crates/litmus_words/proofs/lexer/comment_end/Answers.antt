@@ -37,11 +37,11 @@ loop-at-preserved-then-text-at-eq41 c =
 pub loop-at-preserved : goal.loop-at-preserved
 loop-at-preserved c =
     let no_opening : Opens c.args.text.now c.loop-at.at → ⊥ = elim c.else-text-at-eq40.branch [
-      else-text-at-eq40-via-then-text-at-eq40+else-text-at-eq42 w ↦ λ o. w.if-text-at-eq42.false o.1
+      | else-text-at-eq40-via-then-text-at-eq40+else-text-at-eq42 w ↦ λ o. w.if-text-at-eq42.false o.1
       | else-text-at-eq40-via-else-text-at-eq40 w ↦ λ o. w.if-text-at-eq40.false o.0
     ] in
     let no_closing : Closes c.args.text.now c.loop-at.at → ⊥ = elim c.else-text-at-eq42-2.branch [
-      else-text-at-eq42-2-via-then-text-at-eq42-2+else-text-at-eq41 w ↦ λ o. w.if-text-at-eq41.false o.1
+      | else-text-at-eq42-2-via-then-text-at-eq42-2+else-text-at-eq41 w ↦ λ o. w.if-text-at-eq41.false o.1
       | else-text-at-eq42-2-via-else-text-at-eq42-2 w ↦ λ o. w.if-text-at-eq42-2.false o.0
     ] in
     record {
