@@ -3,7 +3,6 @@
 
 ghost use Rattle.std.specs.Prelude.{◌≡◌, true, IfOk};
 ghost use Rattle.litmus_tests.specs.WellFormed.{is_straight};
-ghost use Rattle.smt_model.specs.Exec.{is_taken};
 ghost use Rattle.litmus_runs.specs.Steps.{behind_branch, HasExecuted, HasTaken};
 
 use crate::access::Access;
@@ -15,7 +14,7 @@ use crate::number::word_of;
 use crate::registers::{computed_by, read_register, write_register};
 use crate::reservation::reservation_after;
 use litmus_tests::{LitmusStep, RegisterStart};
-use rv_execute::effect_of;
+use rv_execute::{effect_of, is_taken};
 use rv_instr::{BranchOp, Instr, Op};
 use std::alloc::{AllocError, Global};
 
@@ -122,20 +121,6 @@ fn behind_branch(op: BranchOp, left: u32, right: u32, target: usize, next: usize
         return target;
     }
     next.saturating_add(1)
-}
-
-/// Whether a branch is taken.
-fn is_taken(op: BranchOp, left: u32, right: u32) -> bool
-    ensures { result ≡ is_taken op left right }
-{
-    match op {
-        BranchOp::Beq => left == right,
-        BranchOp::Bne => left != right,
-        BranchOp::Blt => left.cast_signed() < right.cast_signed(),
-        BranchOp::Bge => left.cast_signed() >= right.cast_signed(),
-        BranchOp::Bltu => left < right,
-        BranchOp::Bgeu => left >= right,
-    }
 }
 
 /// Whether the hart goes on behind it, and nothing that it computes depends on where it stands.
