@@ -2,7 +2,7 @@
 
 use crate::inside_text::add_line;
 use crate::line_fault::LineFault;
-use crate::litmus_words::in_place_of;
+use crate::litmus_instead::in_place_of;
 use crate::named_files::add_program;
 use hints::{Hint, Part};
 use litmus_reading::{Fault, FaultAt, Place, faults_in};
