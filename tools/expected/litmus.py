@@ -16,6 +16,11 @@ from litmus_machine import AT_ITS_END, TooMany, address_of, bounds, final_states
 from litmus_words import Refused, place
 
 MOST_STATES = 1000000
+# How much each kind of condition binds, what stands between its parts, and how much its first and other parts have to
+# bind to stand without parentheses.
+BINDS = {"iff": 0, "implies": 1, "or": 2, "and": 3, "not": 4, "term": 4, "true": 4}
+SIGNS = {"iff": " <=> ", "implies": " => ", "or": " \\/ ", "and": " /\\ "}
+LEAST = {"iff": (0, 1), "implies": (2, 1), "or": (2, 2), "and": (3, 3)}
 HEADS = {"exists": "Allowed", "~exists": "Forbidden", "forall": "Required"}
 
 
@@ -51,15 +56,14 @@ def condition_text(condition):
         what, value = parts
         return f"{observed_text(what)}={value if isinstance(value, str) else signed(value)}"
     if kind == "not":
-        return "not " + wrapped(parts[0], ("and", "or"))
-    if kind == "and":
-        return " /\\ ".join(wrapped(part, ("or",)) for part in parts)
-    return " \\/ ".join(condition_text(part) for part in parts)
+        return "not " + wrapped(parts[0], BINDS["not"])
+    first, others = LEAST[kind]
+    return SIGNS[kind].join(wrapped(part, others if k else first) for k, part in enumerate(parts))
 
 
-def wrapped(condition, kinds):
+def wrapped(condition, least):
     text = condition_text(condition)
-    return f"({text})" if condition[0] in kinds else text
+    return f"({text})" if BINDS[condition[0]] < least else text
 
 
 def holds(test, condition, numbers):
@@ -71,11 +75,15 @@ def holds(test, condition, numbers):
         return numbers[test.question.observed.index(what)] == number_of(test, value)
     if kind == "not":
         return not holds(test, parts[0], numbers)
-    return (all if kind == "and" else any)(holds(test, part, numbers) for part in parts)
+    truths = [holds(test, part, numbers) for part in parts]
+    if kind == "implies":
+        return not truths[0] or truths[1]
+    return truths[0] == truths[1] if kind == "iff" else (all if kind == "and" else any)(truths)
 
 
-def lines(test, states):
-    quantifier, condition, _ = test.question
+def lines(test, found):
+    quantifier, condition = test.question.quantifier, test.question.condition
+    states = [state for state in found.states if holds(test, test.question.filter, state[1])]
     held = sum(holds(test, condition, numbers) for _, numbers in states)
     others = len(states) - held
     is_as_asked = {"exists": held > 0, "~exists": held == 0, "forall": others == 0}[quantifier]
@@ -89,6 +97,7 @@ def lines(test, states):
     yield f"Positive: {positive} Negative: {negative}"
     yield f"Condition {quantifier} ({condition_text(condition)})"
     yield f"Observation {shown(test.name)} {how} {held} {others}"
+    yield "stuck" if found.is_stuck else "always can end"
 
 
 def said(data, most=MOST_STATES, patience=MOST_STATES):
@@ -100,13 +109,13 @@ def said(data, most=MOST_STATES, patience=MOST_STATES):
     except Refused as refused:
         line, column = place(text, refused.at)
         return "", f"smtsim: litmus refused {line}:{column}: {refused.what}\n", 2
-    states, looked_at = final_states(test, patience)
-    least, greatest = (0, looked_at) if looked_at <= most else bounds(test)
+    found = final_states(test, patience)
+    least, greatest = (0, found.looked_at) if found.looked_at <= most else bounds(test)
     if least > most:
         return f"not complete: more than {most} states\n", "", 3
     if greatest > most:
         raise TooMany
-    return "".join(f"{line}\n" for line in lines(test, states)), "", 0
+    return "".join(f"{line}\n" for line in lines(test, found)), "", 0
 
 
 def test_file(name):

@@ -1,15 +1,16 @@
 """Reads the cells of a hart of a litmus test into its instructions. A part of litmus.py.
 
-An instruction is a tuple: ("lw", register, offset, base), ("sw", ..) alike, ("lr.w", register, base),
-("sc.w", register, source, base) and each AMO alike, ("li", register, number), ("addi", register, source, number) and
-its like, ("add", register, first, second) and its like, ("beq", first, second, place), ("bne", ..), or ("fence",).
-The place of a branch is that of the instruction to which it goes, the number of instructions where it is the end.
+An instruction is a tuple: ("lw", register, offset, base) and each load and store alike, ("lr.w", register, base),
+("sc.w", register, source, base) and each AMO alike, ("li", register, number) and ("lui", ..), ("addi", register,
+source, number) and its like, ("add", register, first, second) and its like, ("beq", first, second, place) and its like,
+or ("fence",). The place of a branch is that of the instruction to which it goes, the number of instructions where it is the end.
 """
 
 import re
 from typing import NamedTuple
 
-from litmus_words import ATOMICS, BRANCHES, IMMEDIATES, ORDERED, SUBSET, THREE_REGISTERS, TOO_LARGE, Refused
+from litmus_words import ATOMICS, BRANCHES, IMMEDIATES, LOADS, ORDERED, SHIFTS, STORES, SUBSET, SWAPPED, THREE_REGISTERS
+from litmus_words import TOO_LARGE, WITH_ZERO, ZERO_WITH, Refused
 
 MOST_STEPS = 500
 
@@ -46,7 +47,7 @@ def read_label(cell, labels, place):
 
 
 def resolved(instruction, labels):
-    if instruction[0] not in ("beq", "bne"):
+    if instruction[0] not in BRANCHES:
         return instruction
     label = instruction[3]
     if label.text not in labels:
@@ -55,29 +56,40 @@ def resolved(instruction, labels):
 
 
 def read_instruction(cell):
-    """An instruction, with nothing behind it. An offset that has to be 0, and an amount, are looked at last."""
+    """An instruction, with nothing behind it. What has to be small, or 0, is looked at last."""
     instruction = read_operands(cell)
     cell.nothing_more()
-    name, last = instruction[0], instruction[-1]
-    if name == "slli" and not 0 <= last.number <= 31:
-        raise Refused(last.at, TOO_LARGE)
+    if not isinstance(instruction[-1], Looked):
+        return instruction
+    *instruction, last = instruction
+    name = instruction[0]
+    if name == "jal":
+        if last.number != 0:
+            raise Refused(last.at, "a link register other than x0")
+        return ("beq", 0, 0, instruction[2])
     if name in ("lr.w", "sc.w", *ATOMICS):
-        *instruction, offset = instruction
-        if offset.number != 0:
-            raise Refused(offset.at, SUBSET)
-    elif name == "slli":
-        instruction = (*instruction[:-1], last.number)
-    return tuple(instruction)
+        if last.number != 0:
+            raise Refused(last.at, SUBSET)
+        return tuple(instruction)
+    if not 0 <= last.number < (32 if name in SHIFTS else 2**20):
+        raise Refused(last.at, TOO_LARGE)
+    return (*instruction, last.number)
 
 
 def read_operands(cell):
     name = cell.take_kind("instruction").text
-    if name in ("lw", "sw"):
+    if name in (*LOADS, *STORES):
         return read_access(cell, name)
     if name in ORDERED:
         return read_ordered(cell, re.match(r"[a-z]+\.w", name).group())
-    if name in BRANCHES:
+    if name in (*BRANCHES, *SWAPPED, *WITH_ZERO, *ZERO_WITH):
         return read_branch(cell, name)
+    if name == "j":
+        return ("beq", 0, 0, cell.take_kind("name"))
+    if name == "jal":
+        at, link = cell.at(), cell.take_register()
+        cell.take_mark(",")
+        return ("jal", link, cell.take_kind("name"), Looked(at, link))
     if name == "fence":
         read_fence(cell)
     if name in ("fence", "fence.tso"):
@@ -88,13 +100,20 @@ def read_operands(cell):
     cell.take_mark(",")
     if name == "li":
         return (name, register, cell.take_number())
+    if name == "lui":
+        return (name, register, Looked(cell.at(), cell.take_number()))
+    return read_computing(cell, name, register)
+
+
+def read_computing(cell, name, register):
+    """What is computed of one register or two."""
     source = cell.take_register()
     if name == "mv":
         return ("addi", register, source, 0)
     cell.take_mark(",")
+    if name in SHIFTS:
+        return (name, register, source, Looked(cell.at(), cell.take_number()))
     if name in IMMEDIATES:
-        if name == "slli":
-            return (name, register, source, Looked(cell.at(), cell.take_number()))
         return (name, register, source, cell.take_number(-2048, 2047))
     assert name in THREE_REGISTERS
     return (name, register, source, cell.take_register())
@@ -126,13 +145,17 @@ def read_ordered(cell, name):
 
 
 def read_branch(cell, name):
-    first = cell.take_register()
+    registers = [cell.take_register()]
     cell.take_mark(",")
-    second = 0
-    if not name.endswith("z"):
-        second = cell.take_register()
+    if name in (*BRANCHES, *SWAPPED):
+        registers.append(cell.take_register())
         cell.take_mark(",")
-    return (name[:3], first, second, cell.take_kind("name"))
+    else:
+        registers.append(0)
+    if name in (*SWAPPED, *ZERO_WITH):
+        registers.reverse()
+    op = {**BRANCHES, **SWAPPED, **WITH_ZERO, **ZERO_WITH}[name]
+    return (op, *registers, cell.take_kind("name"))
 
 
 def read_fence(cell):

@@ -4,11 +4,13 @@ A state is a tuple of harts and the words that were written. A hart is a tuple: 
 its next instruction, its registers, and the address that it has reserved or None.
 """
 
-from instructions import ATOMIC_RESULTS, MASK, RESULTS
+from typing import NamedTuple
+
+from instructions import ATOMIC_RESULTS, FORMS, MASK, RESULTS, SIZES, TAKEN, signed
+from litmus_words import LOADS, STORES
 
 RAM, RAM_BYTES, CODE = 0x80000000, 65536, 0x80000100
-FORMS = {"addi": "add", "ori": "or", "andi": "and", "xori": "xor", "slli": "sll"}
-ACCESSES = ("lw", "sw", "lr.w", "sc.w", *ATOMIC_RESULTS)
+ACCESSES = (*LOADS, *STORES, "lr.w", "sc.w", *ATOMIC_RESULTS)
 # How many steps that no other hart can see are followed.
 MOST_UNSEEN = 500
 # The cause of the EBREAK behind a hart's instructions.
@@ -49,19 +51,28 @@ class Machine:
             harts.append((None, 0, tuple(registers), None))
         return tuple(harts), ()
 
-    def read(self, memory, address):
-        return dict(memory).get(address, self.at_start.get(address, 0))
+    def read(self, memory, address, size=4):
+        """The number of so many bytes. Memory has whole words, by their addresses."""
+        word = address & ~3
+        number = dict(memory).get(word, self.at_start.get(word, 0))
+        return number >> 8 * (address & 3) & (1 << 8 * size) - 1
+
+    def written(self, memory, address, size, number):
+        """Memory behind a write of the lowest bytes of a number."""
+        shift, mask, word = 8 * (address & 3), (1 << 8 * size) - 1, address & ~3
+        changed = self.read(memory, word) & ~(mask << shift) | (number & mask) << shift
+        return tuple(sorted({**dict(memory), word: changed}.items()))
 
     def without_registers(self, state):
         harts, memory = state
         changed = tuple((a, number) for a, number in memory if number != self.at_start.get(a, 0))
         return tuple((stopped, place, reserved) for stopped, place, _, reserved in harts), changed
 
-    def fault(self, address, writes):
-        """The cause with which an access of a word stops its hart; None where it doesn't."""
-        if address % 4:
+    def fault(self, address, size, writes):
+        """The cause with which an access of so many bytes stops its hart; None where it doesn't."""
+        if address % size:
             return 6 if writes else 4
-        if not RAM <= address <= RAM + RAM_BYTES - 4:
+        if not RAM <= address <= RAM + RAM_BYTES - size:
             return 7 if writes else 5
         if CODE <= address < self.code_end:
             if not writes:
@@ -80,10 +91,9 @@ class Machine:
         name, operands = instruction[0], instruction[1:]
         if name in ACCESSES:
             return self.access(state, number, name, operands)
-        if name in ("beq", "bne"):
+        if name in TAKEN:
             first, second, target = operands
-            is_taken = (registers[first] == registers[second]) == (name == "beq")
-            place = target - 1 if is_taken else place
+            place = target - 1 if TAKEN[name](registers[first], registers[second]) else place
         elif name != "fence":
             registers = with_register(registers, operands[0], result(name, registers, operands[1:]))
         return with_hart(harts, number, (None, place + 1, registers, reserved)), memory
@@ -91,27 +101,30 @@ class Machine:
     def access(self, state, number, name, operands):
         harts, memory = state
         _, place, registers, reserved = harts[number]
-        offset = operands[1] if name in ("lw", "sw") else 0
+        offset, size = (operands[1], SIZES[name]) if name in SIZES else (0, 4)
         address = registers[operands[-1]] + offset & MASK
-        cause = self.fault(address, name not in ("lw", "lr.w"))
+        cause = self.fault(address, size, name not in (*LOADS, "lr.w"))
         if cause is not None:
             return with_hart(harts, number, (cause, place, registers, reserved)), memory
-        found, written = self.read(memory, address), None
-        if name == "sw":
+        found, written = self.read(memory, address, size), None
+        if name in STORES:
             written = registers[operands[0]]
+        elif name in ("lb", "lh"):
+            found = signed(found, 8 * size) & MASK
         elif name == "lr.w":
             reserved = address
         elif name == "sc.w":
             written = registers[operands[1]] if reserved == address else None
             found, reserved = int(written is None), None
-        elif name != "lw":
+        elif name not in LOADS:
             written = ATOMIC_RESULTS[name](found, registers[operands[1]])
-        if name != "sw":
+        if name not in STORES:
             registers = with_register(registers, operands[0], found)
         harts = with_hart(harts, number, (None, place + 1, registers, reserved))
         if written is not None:
-            harts = tuple((*hart[:3], None if hart[3] == address else hart[3]) for hart in harts)
-            memory = tuple(sorted({**dict(memory), address: written}.items()))
+            # Each write of a byte or more ends the reservations of its word.
+            harts = tuple((*hart[:3], None if hart[3] == address & ~3 else hart[3]) for hart in harts)
+            memory = self.written(memory, address, size, written)
         return harts, memory
 
 
@@ -126,30 +139,53 @@ def with_register(registers, register, number):
 def result(name, registers, operands):
     if name == "li":
         return operands[0] & MASK
+    if name == "lui":
+        return operands[0] << 12
     if name in FORMS:
         return RESULTS[FORMS[name]](registers[operands[0]], operands[1] & MASK)
     return RESULTS[name](registers[operands[0]], registers[operands[1]])
 
 
+class Found(NamedTuple):
+    """All final states, sorted: why each hart stopped, and the numbers of what is looked at; how many states there were
+    on the way; and whether there is one from which no order of the harts leads to a final state."""
+
+    states: list
+    looked_at: int
+    is_stuck: bool
+
+
 def final_states(test, most):
-    """All final states, sorted: why each hart stopped, and the numbers of what is looked at; and how many states
-    there were on the way."""
     machine = Machine(test)
     waiting = [machine.first()]
-    seen, found = set(waiting), set()
+    before = {waiting[0]: []}
+    ends = []
     while waiting:
         state = waiting.pop()
         going = [number for number, hart in enumerate(state[0]) if hart[0] is None]
         if not going:
-            found.add(observed(machine, state))
+            ends.append(state)
         for number in going:
             there = machine.after(state, number)
-            if there not in seen:
-                seen.add(there)
+            if there not in before:
+                before[there] = []
                 waiting.append(there)
-        if len(seen) > most:
+            before[there].append(state)
+        if len(before) > most:
             raise TooMany
-    return sorted(found), len(seen)
+    found = sorted({observed(machine, state) for state in ends})
+    return Found(found, len(before), len(leading(before, ends)) < len(before))
+
+
+def leading(before, ends):
+    """Those states from which some order leads to one of these; `before` has the states right before each."""
+    waiting, seen = list(ends), set(ends)
+    while waiting:
+        for state in before[waiting.pop()]:
+            if state not in seen:
+                seen.add(state)
+                waiting.append(state)
+    return seen
 
 
 def settled(machine, state, number):

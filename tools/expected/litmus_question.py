@@ -1,12 +1,12 @@
 """Reads what stands behind the rows of a litmus test: what is looked at, and the condition. A part of litmus.py.
 
-A condition is a tuple: ("true",), ("term", what, value), ("not", C), ("and", C, D, ..) or ("or", C, D, ..). What is
-looked at is a hart and a register, or the name of a location.
+A condition is a tuple: ("true",), ("term", what, value), ("not", C), ("and", C, D, ..), ("or", C, D, ..), ("implies", C,
+D) or ("iff", C, D). What is looked at is a hart and a register, or the name of a location.
 """
 
 from typing import NamedTuple
 
-from litmus_words import SUBSET, Refused
+from litmus_words import Refused
 
 MOST_TERMS, MOST_LEVELS, MOST_OBSERVED = 32, 16, 64
 
@@ -14,6 +14,7 @@ MOST_TERMS, MOST_LEVELS, MOST_OBSERVED = 32, 16, 64
 class Question(NamedTuple):
     quantifier: str  # "exists", "~exists" or "forall"
     condition: tuple
+    filter: tuple
     observed: list  # the registers by hart and number, then the locations in their order
 
 
@@ -25,21 +26,23 @@ def check_hart(word, harts):
 def read(reader, locations, harts):
     asked = Asked(reader, locations, harts)
     at = reader.at()
-    if reader.take_if("locations"):
-        asked.read_list()
-    quantifier = read_quantifier(reader)
-    condition = asked.read_either(0)
+    parts = {}
+    while reader.is_mark("locations", "filter") and reader.peek().text not in parts:
+        which = reader.take().text
+        parts[which] = asked.read_list() if which == "locations" else asked.read_whole()
+    if reader.peek() is None and "locations" in parts:
+        quantifier, condition = "forall", ("true",)
+    else:
+        quantifier, condition = read_quantifier(reader), asked.read_whole()
     reader.nothing_more("something behind the condition")
     registers = sorted(one for one in asked.named if isinstance(one, tuple))
     observed = registers + [name for name in locations if name in asked.named]
     if len(observed) > MOST_OBSERVED:
         raise Refused(at, "more than 64 registers and locations looked at")
-    return Question(quantifier, condition, observed)
+    return Question(quantifier, condition, parts.get("filter", ("true",)), observed)
 
 
 def read_quantifier(reader):
-    if reader.is_mark("filter"):
-        raise Refused(reader.at(), SUBSET)
     if reader.take_if("~", "not"):
         reader.take_mark("exists")
         return "~exists"
@@ -83,6 +86,21 @@ class Asked:
             raise Refused(word.at, "a location that is never declared")
         return word.text
 
+    def read_whole(self):
+        """A filter, or the condition: each has so many terms."""
+        self.terms = 0
+        return self.read_condition(0)
+
+    def read_condition(self, level):
+        condition = self.read_implied(level)
+        while self.reader.take_if("<=>"):
+            condition = ("iff", condition, self.read_implied(level))
+        return condition
+
+    def read_implied(self, level):
+        condition = self.read_either(level)
+        return ("implies", condition, self.read_implied(level)) if self.reader.take_if("=>") else condition
+
     def read_either(self, level):
         parts = [self.read_both(level)]
         while self.reader.take_if("\\/"):
@@ -105,7 +123,7 @@ class Asked:
         if self.reader.take_if("~", "not"):
             return ("not", self.read_one(level + 1))
         if self.reader.take_if("("):
-            condition = self.read_either(level + 1)
+            condition = self.read_condition(level + 1)
             self.reader.take_mark(")")
             return condition
         term = self.read_term()
@@ -120,8 +138,10 @@ class Asked:
 
     def read_term(self):
         what = self.read_observed()
-        self.reader.take_mark("=")
+        is_other = self.reader.take_if("!=")
+        if not is_other:
+            self.reader.take_mark("=")
         word = self.reader.peek()
-        if word is not None and word.kind == "name":
-            return ("term", what, self.take_location())
-        return ("term", what, self.reader.take_number())
+        is_name = word is not None and word.kind == "name"
+        term = ("term", what, self.take_location() if is_name else self.reader.take_number())
+        return ("not", term) if is_other else term

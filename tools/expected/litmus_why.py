@@ -14,7 +14,7 @@ import itertools
 import sys
 
 import litmus_reading
-from instructions import ATOMIC_RESULTS
+from instructions import ATOMIC_RESULTS, TAKEN
 from litmus import holds, test_file
 from litmus_machine import address_of, number_of, result, with_register
 
@@ -39,8 +39,8 @@ def ways(test, hart, known):
             yield accesses, registers
             continue
         name, *operands = code[place]
-        if name in ("beq", "bne"):
-            is_taken = (registers[operands[0]] == registers[operands[1]]) == (name == "beq")
+        if name in TAKEN:
+            is_taken = TAKEN[name](registers[operands[0]], registers[operands[1]])
             waiting.append((operands[2] if is_taken else place + 1, registers, accesses, held))
         elif name == "fence":
             waiting.append((place + 1, registers, accesses, held))
@@ -217,7 +217,7 @@ def meets(test, registers, candidate):
             if access.location == what and rank > last:
                 number, last = access.writes, rank
         numbers.append(number)
-    return holds(test, test.question.condition, numbers)
+    return holds(test, test.question.filter, numbers) and holds(test, test.question.condition, numbers)
 
 
 def letter(event):

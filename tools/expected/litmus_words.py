@@ -11,11 +11,17 @@ TYPES = ("int", "unsigned", "int32_t", "uint32_t")
 KEYWORDS = ("not", "true", "exists", "forall", "locations", "filter", *TYPES)
 ATOMICS = [f"amo{name}.w" for name in ("swap", "add", "and", "or", "xor", "min", "max", "minu", "maxu")]
 ORDERED = [name + order for name in ("lr.w", "sc.w", *ATOMICS) for order in ("", ".aq", ".rl", ".aqrl", ".aq.rl")]
-IMMEDIATES = ("addi", "ori", "andi", "xori", "slli")
-THREE_REGISTERS = ("add", "sub", "xor", "or", "and")
-BRANCHES = ("beq", "bne", "beqz", "bnez")
-MNEMONICS = {"lw", "sw", "li", "mv", "nop", "fence", "fence.tso"}
-MNEMONICS |= {*ORDERED, *IMMEDIATES, *THREE_REGISTERS, *BRANCHES}
+LOADS, STORES = ("lb", "lh", "lw", "lbu", "lhu"), ("sb", "sh", "sw")
+SHIFTS = ("slli", "srli", "srai")
+IMMEDIATES = ("addi", "slti", "sltiu", "xori", "ori", "andi", *SHIFTS)
+THREE_REGISTERS = tuple("add sub sll slt sltu xor srl sra or and mul mulh mulhsu mulhu div divu rem remu".split())
+# What each branch is of its two registers, of the same in turn, of one and 0, and of 0 and one.
+BRANCHES = {name: name for name in ("beq", "bne", "blt", "bge", "bltu", "bgeu")}
+SWAPPED = {"bgt": "blt", "ble": "bge", "bgtu": "bltu", "bleu": "bgeu"}
+WITH_ZERO = {"beqz": "beq", "bnez": "bne", "bltz": "blt", "bgez": "bge"}
+ZERO_WITH = {"bgtz": "blt", "blez": "bge"}
+MNEMONICS = {*LOADS, *STORES, "li", "lui", "mv", "nop", "j", "jal", "fence", "fence.tso"}
+MNEMONICS |= {*ORDERED, *IMMEDIATES, *THREE_REGISTERS, *BRANCHES, *SWAPPED, *WITH_ZERO, *ZERO_WITH}
 REGISTERS = {f"x{k}": k for k in range(32)} | {name: k for k, name in enumerate(NAMES)} | {"fp": 8}
 
 SUBSET = "what stands there isn't of the subset"
@@ -81,13 +87,15 @@ def kind_of_name(name):
 
 def number_of(at, text):
     """What a word is that begins with a digit."""
-    if re.fullmatch("0x[0-9a-f]{1,8}", text):
-        return int(text, 16)
-    if not re.fullmatch("[0-9]+", text):
+    if re.fullmatch("0[xX][0-9a-fA-F]+", text):
+        number = int(text, 16)
+    elif re.fullmatch("[0-9]+", text):
+        number = int(text)
+    else:
         raise Refused(at, SUBSET)
-    if (text[0] == "0" and text != "0") or int(text) >= 2**32:
+    if number >= 2**32:
         raise Refused(at, TOO_LARGE)
-    return int(text)
+    return number
 
 
 def word_of(text, at, end):
@@ -103,7 +111,7 @@ def words_of(text, at):
     found = []
     at = behind_blanks(text, at)
     while at < len(text):
-        spelled = re.compile(r"[A-Za-z0-9_][A-Za-z0-9_.]*|/\\|\\/|[,:;|=()\[\]{}~-]").match(text, at)
+        spelled = re.compile(r"[A-Za-z0-9_][A-Za-z0-9_.]*|<=>|=>|!=|/\\|\\/|[,:;|=()\[\]{}~-]").match(text, at)
         if not spelled:
             raise Refused(at, SUBSET)
         found.append(word_of(spelled.group(), *spelled.span()))

@@ -7,6 +7,7 @@ docs/FORMATS.md says it.
     python3 tools/expected/program.py plain IMAGE --rounds K [--steps N] [--seed S] [--config FILE] [--records]
     python3 tools/expected/program.py list IMAGE [--config FILE]
     python3 tools/expected/program.py explain IMAGE [--script FILE | --order FILE] [--config FILE]
+    python3 tools/expected/program.py litmus TEST [--states N]
 """
 
 import sys
@@ -16,6 +17,7 @@ import explanation
 import image
 import inputs
 import labels
+import litmus
 import looks
 import story
 from inputs import Refused
@@ -225,8 +227,20 @@ def labels_of(line, made):
     return labels.Labels(read_file(line["files"][0]), line["names"], lines)
 
 
+def of_litmus(words):
+    """The same of a litmus test."""
+    data = read_file(words[1])
+    if data is None:
+        return [], ["smtsim: file"], 5
+    most = int(words[3]) if words[2:3] == ["--states"] else litmus.MOST_STATES
+    out, err, status = litmus.said(data, most)
+    return out.split("\n")[:-1], err.split("\n")[:-1], status
+
+
 def run(words):
     """The lines on standard output, those on standard error, and the exit status."""
+    if words[0] == "litmus":
+        return of_litmus(words)
     out, faults, status, beside = bare_run(words)
     if beside is None:
         return out, faults, status

@@ -10,10 +10,10 @@ WORDS += (b"15", b"17", b"32", b"33", b"504", b"528", b"529", b"1024", b"config"
 WORDS += (b"smt-trace 2", b"smt-trace 3\nconfig", b"G", b"T", b"alu", b"fetch", b"F31", b"F32", b"D0.15", b"D0.16")
 WORDS += (b"Z", b"\xff", b"\xc3\xa9", b"[", b"= 1")
 LITMUS_WORDS = rb"""
-; | = : , ( ) [ ] { } ~ /\ \/ - (* *) " %
+; | = : , ( ) [ ] { } ~ /\ \/ => <=> != - (* *) " % < > !
 not true exists forall locations filter int P0 P1 P9 P15 P16 L0 L9 x w x0 x5 x32 a0 a.b
-0 1 01 7 0x 0xA 0xffffffff 4294967296 2048
-nop lw sw li lr.w.aqrl sc.w amoadd amomaxu.w.rl slli beq bnez fence fence.i fadd.s
+0 1 01 7 0x 0xA 0XfF 00x1 0xffffffff 4294967296 2048 1048576
+nop lw sw sb lhu li lui mulh lr.w.aqrl lr.w.rl.aq sc.w amoadd amomaxu.w.rl slli srai beq bnez bgt blez j fence fence.i fadd.s
 """.split()
 
 

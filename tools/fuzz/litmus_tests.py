@@ -9,7 +9,11 @@ ABI_NAMES = {1: "ra", 2: "sp", 5: "t0", 6: "t1", 7: "t2", 8: "fp", 9: "s1", 10: 
 REGISTERS, BASES = (5, 5, 7, 7, 10, 31), (6, 8, 9, 30)
 NUMBERS = (0, 0, 1, 1, 1, 2, 3, -1, 4, 255, 2**31 - 1, -(2**31))
 ATOMICS = [f"amo{name}.w" for name in ("swap", "add", "and", "or", "xor", "min", "max", "minu", "maxu")]
-IMMEDIATES, THREE_REGISTERS = ("addi", "ori", "xori", "andi", "slli"), ("xor", "or", "and", "add", "sub")
+SHIFTS = ("slli", "srli", "srai")
+IMMEDIATES = ("addi", "ori", "xori", "andi", "slti", "sltiu", *SHIFTS)
+THREE_REGISTERS = tuple("xor or and add sub sll slt sltu srl sra mul mulh mulhsu mulhu div divu rem remu".split())
+LOADS, STORES = ("lw", "lw", "lw", "lw", "lb", "lbu", "lh", "lhu"), ("sw", "sw", "sw", "sw", "sb", "sh")
+BRANCHES = tuple("beq bne blt bge bltu bgeu bgt ble bgtu bleu beqz bnez bltz bgez bgtz blez j".split())
 ORDERS = ("", "", "", ".aq", ".rl", ".aqrl", ".aq.rl")
 BLANKS = (" ", " ", " ", "  ", "\t", "\n", " \n ", "\r\n", "\f", "(* c *)", " (* a (* b; *) | \n*) ", "(**)")
 HEADS = ("", "", '"PodWR Fre"\n', '"a\n(* b" ', "Cycle=Fre PodWR\nOrig=\n", "(* (* *) *)\n", "\r\n \f")
@@ -39,7 +43,8 @@ def register(r, number):
 def number(r, chosen):
     """The words of a number."""
     sign, size = ["-"] if chosen < 0 else [], abs(chosen)
-    return [*sign, f"0x{size:x}" if r.random() < 0.15 else str(size)]
+    spellings = [f"0x{size:x}", f"0X{size:X}", f"0x{size:08X}", f"00{size}"]
+    return [*sign, r.choice(spellings) if r.random() < 0.15 else str(size)]
 
 
 class Maker:
@@ -116,10 +121,11 @@ class Maker:
 
     def access(self, hart, _labels):
         r = self.r
-        offset = r.choice(([], [], ["0"], ["0"], ["0"], ["0"], ["0"], ["4"], ["0x0"], [],
+        name = r.choice(r.choice((LOADS, STORES)))
+        inside = ("1", "2", "3", "0x2") if name[1] in "bh" else ("4", "0x0", "0", "0")
+        offset = r.choice(([], [], ["0"], ["0"], ["0"], ["0"], ["0"], [r.choice(inside)], [r.choice(inside)], [],
                            number(r, r.choice((1, 2, 4, 8, -4, 256, 2047)))))
-        name = r.choice(("lw", "sw"))
-        first = self.target(hart) if name == "lw" else self.source(hart)
+        first = self.source(hart) if name in STORES else self.target(hart)
         return [name, first, ",", *offset, "(", self.base(hart), ")"]
 
     def ordered(self, hart, _labels):
@@ -131,22 +137,28 @@ class Maker:
 
     def arithmetic(self, hart, _labels):
         r, first = self.r, self.target(hart)
-        name = r.choice(("li", "li", "mv", "nop", *IMMEDIATES, *THREE_REGISTERS))
+        name = r.choice(("li", "li", "mv", "nop", "lui", r.choice(IMMEDIATES), r.choice(IMMEDIATES),
+                         r.choice(THREE_REGISTERS), r.choice(THREE_REGISTERS)))
         if name == "nop":
             return [name]
         if name == "li":
             return [name, first, ",", *number(r, r.choice(NUMBERS))]
+        if name == "lui":
+            return [name, first, ",", *number(r, r.choice((0, 1, 0x80000, 0xFFFFF)))]
         words = [name, first, ",", self.any_register()]
-        if name == "slli":
+        if name in SHIFTS:
             return [*words, ",", *number(r, r.choice((0, 1, 31)))]
-        if name.endswith("i"):
+        if name in IMMEDIATES:
             return [*words, ",", *number(r, r.choice((0, 1, 2, 4, -1, 2047, -2048)))]
         return words if name == "mv" else [*words, ",", self.any_register()]
 
     def branch(self, _hart, labels):
-        r, name = self.r, self.r.choice(("beq", "bne", "beqz", "bnez"))
-        second = [] if name.endswith("z") else [self.any_register(), ","]
-        return [name, self.any_register(), ",", *second, r.choice(labels)]
+        r, name = self.r, self.r.choice(BRANCHES)
+        registers = 0 if name == "j" else 1 if name.endswith("z") else 2
+        words = [name]
+        for _ in range(registers):
+            words += [self.any_register(), ","]
+        return [*words, r.choice(labels)]
 
     def fence(self, _hart, _labels):
         sets = ("rw", "w", "r", "iorw", "o", "i", "or", "wr", "rr")
@@ -192,20 +204,32 @@ class Maker:
         r = self.r
         kind = r.random()
         if depth == 0 or kind < 0.25:
-            return ["true"] if r.random() < 0.05 else [*self.observed(), "=", *self.value()]
+            sign = r.choice(("=", "=", "=", "!="))
+            return ["true"] if r.random() < 0.05 else [*self.observed(), sign, *self.value()]
         if kind < 0.4:
             return [r.choice(("~", "not")), *self.condition(0 if r.random() < 0.5 else depth - 1)]
         if kind < 0.55:
             return ["(", *self.condition(depth - 1), ")"]
-        return [*self.condition(depth - 1), r.choice(("/\\", "/\\", "\\/")), *self.condition(depth - 1)]
+        sign = r.choice(("/\\", "/\\", "\\/", "\\/", "=>", "<=>"))
+        return [*self.condition(depth - 1), sign, *self.condition(depth - 1)]
+
+    def listed(self):
+        r, words = self.r, ["locations", "["]
+        for _ in range(r.choice((0, 2, 4, 6))):
+            words += [*self.observed(), ";"]
+        return [*words[: -1 if len(words) > 2 and r.random() < 0.2 else None], "]"]
 
     def question(self):
-        r, words = self.r, []
+        r, parts = self.r, []
         if r.random() < 0.7:
-            words = ["locations", "["]
-            for _ in range(r.choice((0, 2, 4, 6))):
-                words += [*self.observed(), ";"]
-            words += ["]"]
+            parts.append(self.listed())
+        if r.random() < 0.2:
+            parts.append(["filter", *self.condition(r.choice((0, 1, 2)))])
+        has_list = any(part[0] == "locations" for part in parts)
+        r.shuffle(parts)
+        words = [word for part in parts for word in part]
+        if has_list and r.random() < 0.1:
+            return words
         words += r.choice((["exists"], ["exists"], ["~", "exists"], ["forall"], ["not", "exists"]))
         condition = self.condition(r.choice((0, 1, 2, 3)))
         return words + (["(", *condition, ")"] if r.random() < 0.6 else condition)

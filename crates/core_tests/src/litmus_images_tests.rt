@@ -10,11 +10,11 @@ use crate::rows::holds;
 use elf_image::Image;
 use litmus_images::{harts_of, holds_in, image_of, value_in, watch_of};
 use litmus_tests::{
-    Comparison, Condition, LitmusStep, LitmusTest, Location, Observed, Quantifier, RegisterStart,
-    Term, Thread, Value,
+    Condition, LitmusStep, LitmusTest, Location, Observed, Quantifier, RegisterStart, Term, Thread,
+    Value,
 };
 use outcomes::{Outcomes, find_outcomes};
-use rv_instr::{Instr, LoadOp, RegisterOp, StoreOp};
+use rv_instr::{BranchOp, Instr, LoadOp, RegisterOp, StoreOp};
 use std::alloc::{AllocError, Global};
 
 /// x5 has the address of a hart's own location, x6 that of the other one's.
@@ -142,6 +142,7 @@ fn buffering(alloc: Global) -> Result<LitmusTest, AllocError>
         name: Vec::new(alloc),
         locations,
         threads,
+        filter: Condition::Always,
         quantifier: Quantifier::Exists,
         condition: Condition::Both(first, second),
         observed,
@@ -159,7 +160,7 @@ fn branching_steps(alloc: Global) -> Result<Vec<LitmusStep>, AllocError>
         value: 0x1234_5fff,
     })?;
     steps.push(LitmusStep::Branch {
-        comparison: Comparison::Different,
+        op: BranchOp::Bne,
         left: 7,
         right: 0,
         target: 3,
@@ -171,7 +172,7 @@ fn branching_steps(alloc: Global) -> Result<Vec<LitmusStep>, AllocError>
         rs2: 7,
     }))?;
     steps.push(LitmusStep::Branch {
-        comparison: Comparison::Equal,
+        op: BranchOp::Beq,
         left: 0,
         right: 0,
         target: 0,
@@ -202,6 +203,7 @@ fn branching(alloc: Global) -> Result<LitmusTest, AllocError>
         name: Vec::new(alloc),
         locations: Vec::new(alloc),
         threads,
+        filter: Condition::Always,
         quantifier: Quantifier::ForAll,
         condition: Condition::Always,
         observed: Vec::new(alloc),

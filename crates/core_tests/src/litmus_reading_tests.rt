@@ -3,9 +3,10 @@
 
 use litmus_reading::{MOST_BYTES, ReadingRefused, read_litmus};
 use litmus_tests::{
-    Comparison, Condition, LitmusStep, LitmusTest, Observed, Quantifier, RegisterStart, Term, Value,
+    AccessSet, Condition, Fence, LitmusStep, LitmusTest, Observed, Quantifier, RegisterStart, Term,
+    Value,
 };
-use rv_instr::{ImmediateOp, Instr, LoadOp, Ordering, RegisterOp, StoreOp};
+use rv_instr::{BranchOp, ImmediateOp, Instr, LoadOp, Ordering, RegisterOp, StoreOp};
 use rv_word::AmoKind;
 use std::alloc::Global;
 
@@ -163,6 +164,38 @@ fn reads_store_buffering(rt: HostRuntime) {
     assert!(rt; test.observed.as_slice() == [register(0, 7), register(1, 7)].as_slice());
 }
 
+const READS: AccessSet = AccessSet {
+    input: false,
+    output: false,
+    reads: true,
+    writes: false,
+};
+
+const MEMORY: AccessSet = AccessSet {
+    input: false,
+    output: false,
+    reads: true,
+    writes: true,
+};
+
+const DEVICES: AccessSet = AccessSet {
+    input: true,
+    output: true,
+    reads: false,
+    writes: false,
+};
+
+const ALL: AccessSet = AccessSet {
+    input: true,
+    output: true,
+    reads: true,
+    writes: true,
+};
+
+fn fence(before: AccessSet, after: AccessSet) -> LitmusStep {
+    LitmusStep::Fence(Fence::Sets { before, after })
+}
+
 #[test]
 fn reads_message_passing_with_fences(rt: HostRuntime) {
     let Some(test) = read(&rt, MP_FENCES) else {
@@ -170,15 +203,26 @@ fn reads_message_passing_with_fences(rt: HostRuntime) {
         return;
     };
     assert!(rt; test.name.as_slice() == b"MP+fence.rw.rws".as_slice());
-    assert!(rt;
-        does(
-            &test,
-            0,
-            &[sw(5, 6, 0), straight(Instr::Fence), sw(5, 7, 0)]
-        )
-    );
-    assert!(rt; does(&test, 1, &[lw(5, 6), straight(Instr::Fence), lw(7, 8)]));
+    assert!(rt; does(&test, 0, &[sw(5, 6, 0), fence(MEMORY, MEMORY), sw(5, 7, 0)]));
+    assert!(rt; does(&test, 1, &[lw(5, 6), fence(READS, MEMORY), lw(7, 8)]));
     assert!(rt; test.observed.as_slice() == [register(1, 5), register(1, 7)].as_slice());
+}
+
+#[test]
+fn keeps_the_sets_of_fences(rt: HostRuntime) {
+    let text =
+        "RISCV A\n{ }\nP0;\n fence;\n fence iorw,iorw;\n fence io,r;\n fence.tso;\nexists true";
+    let Some(test) = read(&rt, text) else {
+        assert!(rt; false);
+        return;
+    };
+    let steps = [
+        fence(ALL, ALL),
+        fence(ALL, ALL),
+        fence(DEVICES, READS),
+        LitmusStep::Fence(Fence::TotalStoreOrder),
+    ];
+    assert!(rt; does(&test, 0, &steps));
 }
 
 fn of_registers(op: RegisterOp, rd: u8, rs1: u8, rs2: u8) -> LitmusStep {
@@ -263,9 +307,9 @@ fn is_always(condition: &Condition) -> bool {
 }
 
 /// A branch where a register isn't 0.
-fn branch(comparison: Comparison, left: u8, target: usize) -> LitmusStep {
+fn branch(op: BranchOp, left: u8, target: usize) -> LitmusStep {
     LitmusStep::Branch {
-        comparison,
+        op,
         left,
         right: 0,
         target,
@@ -295,10 +339,10 @@ fn reads_a_lock(rt: HostRuntime) {
     };
     let taking = [
         straight(reserved),
-        branch(Comparison::Different, 5, 0),
+        branch(BranchOp::Bne, 5, 0),
         straight(conditional),
-        branch(Comparison::Different, 7, 0),
-        straight(Instr::Fence),
+        branch(BranchOp::Bne, 7, 0),
+        LitmusStep::Fence(Fence::TotalStoreOrder),
     ];
     assert!(rt; does(&test, 0, &taking));
     assert!(rt; test.quantifier == Quantifier::ForAll);
@@ -330,7 +374,7 @@ fn reads_atomics_constants_and_shifts(rt: HostRuntime) {
     };
     let steps = [
         straight(swap),
-        branch(Comparison::Equal, 0, 1),
+        branch(BranchOp::Beq, 0, 1),
         constant,
         straight(shift),
     ];
@@ -354,7 +398,7 @@ fn reads_what_never_is(rt: HostRuntime) {
 }
 
 /// Texts that are refused, and how.
-static REFUSED: [(&str, &str); 34] = [
+static REFUSED: [(&str, &str); 35] = [
     (
         "X86 SB\n",
         "line 1, column 1: a first word that isn't RISCV: X86",
@@ -437,6 +481,10 @@ static REFUSED: [(&str, &str); 34] = [
         "line 4, column 2: what stands there isn't of the subset: fence.i",
     ),
     (
+        "RISCV A\n{ }\nP0;\n lr.w.rl.aq x5,(x6) ;\nexists true",
+        "line 4, column 2: what stands there isn't of the subset: lr.w.rl.aq",
+    ),
+    (
         "RISCV A\n{ }\nP0;\n lw x5,0(y) ;\nexists true",
         "line 4, column 10: a register that isn't one: y",
     ),
@@ -461,8 +509,8 @@ static REFUSED: [(&str, &str); 34] = [
         "line 5, column 1: no exists, ~exists or forall",
     ),
     (
-        "RISCV A\n{ }\nP0;\nfilter true\nexists true",
-        "line 4, column 1: what stands there isn't of the subset: filter",
+        "RISCV A\n{ }\nP0;\nfilter true\nfilter true\nexists true",
+        "line 5, column 1: no exists, ~exists or forall",
     ),
     (
         "RISCV A\n{ }\nP0;\nexists (z=1)",

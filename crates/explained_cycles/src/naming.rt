@@ -98,7 +98,7 @@ fn access_of(test: &LitmusTest, event: &MemoryEvent) -> Option<Instr> {
     let thread = test.threads.get(usize::from(event.hart))?;
     match thread.steps.get(event.step)? {
         LitmusStep::Straight(instr) => Some(*instr),
-        LitmusStep::Constant { .. } | LitmusStep::Branch { .. } => None,
+        LitmusStep::Constant { .. } | LitmusStep::Branch { .. } | LitmusStep::Fence(_) => None,
     }
 }
 

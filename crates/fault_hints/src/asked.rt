@@ -1,13 +1,11 @@
 //! What the options of a command ask for, and isn't there.
 
-use crate::inside_text::add_line;
 use crate::line_fault::LineFault;
 use crate::named::add_named;
-use crate::named_files::{add_config, add_program, add_second};
+use crate::named_files::{add_config, add_second};
 use crate::order_words::add_harts;
 use elf_image::RAM_START;
 use hints::{Hint, Part};
-use litmus_reading::{Fault, Place};
 use outcome_queries::QueryRefused;
 use rv_instr::{UnitKind, unit_name};
 use sim_inputs::{Command, ProgramCommand, QuestionText, read_config};
@@ -225,23 +223,4 @@ pub(crate) fn add_absent_outcome(
         Part::Expected,
         b"the number of a line that is printed without --outcome",
     )
-}
-
-/// Adds where a litmus test is refused.
-pub(crate) fn add_litmus(
-    place: Place,
-    why: Fault,
-    fault: &LineFault<'_, '_>,
-    hint: &mut Hint,
-    alloc: Global,
-) -> Result<(), AllocError> {
-    add_program(fault, hint, alloc)?;
-    let Ok(text) = fault.inputs.program else {
-        return Ok(());
-    };
-    let (line, column) = (place.line, place.column);
-    add_line(text, line, hint, alloc)?;
-    let cause = format!(in alloc; "column {column}: {why}")?;
-    hint.add(Part::Cause, cause.as_bytes())?;
-    hint.add(Part::More, b"docs/FORMATS.md, \"Litmus tests\"")
 }

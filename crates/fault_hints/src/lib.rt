@@ -4,7 +4,8 @@
 //! all that its hint is made of), `named_files` (which of several files it is), `inside_text` (a word or a line
 //! of a text), `script_words` and `order_words` (one that isn't followed), `trace_lines` and `event_rules` (one
 //! that is refused), `explained` (what `explain` says first), `named` (names of the program), `asked` (what options
-//! ask for), `chart_names` (what those of a chart name, and source lines), `telling` (all of
+//! ask for), `chart_names` (what those of a chart name, and source lines), `litmus_instead` and
+//! `litmus_faults` (what is no litmus test, and what to write in its place), `telling` (all of
 //! it); `words_fault` (why words come to no line).
 #![tactic(auto)]
 
@@ -15,6 +16,8 @@ mod explained;
 mod file_fault;
 mod inside_text;
 mod line_fault;
+mod litmus_faults;
+mod litmus_instead;
 mod named;
 mod named_files;
 mod order_words;

@@ -1,14 +1,15 @@
 //! All that is said of a fault.
 
 use crate::asked::{
-    add_absent_outcome, add_absent_word, add_condition, add_hart, add_limit, add_litmus,
-    add_picture, add_two_cores, add_unit, add_watch,
+    add_absent_outcome, add_absent_word, add_condition, add_hart, add_limit, add_picture,
+    add_two_cores, add_unit, add_watch,
 };
 use crate::chart_names::{
     add_never_fetched, add_nothing_named, add_several_named, add_source_line, add_turned,
 };
 use crate::explained::{add_config_fault, add_image_fault};
 use crate::line_fault::LineFault;
+use crate::litmus_faults::add_litmus;
 use crate::named_files::{add_memory, add_second, add_unread, add_unwritten};
 use crate::order_words::{add_order_word, add_step};
 use crate::script_words::add_script_word;

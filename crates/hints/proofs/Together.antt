@@ -86,6 +86,7 @@ names_shown names.Place = refl
 names_shown names.Word = refl
 names_shown names.Line = refl
 names_shown names.Cause = refl
+names_shown names.Further = refl
 names_shown names.Expected = refl
 names_shown names.Meant = refl
 names_shown names.Usually = refl
@@ -121,7 +122,7 @@ begun_more text line count begun is one =
     rw (lines_behind false text line parts.0 is, counted) refl
 
 -- the lines so far are the text of a hint
-pub begun_text : (form : Form) (text : List ℕ) (count : ℕ) → form ≡ Lines → count ≤ 6 → is_begun form count text ≡ true
+pub begun_text : (form : Form) (text : List ℕ) (count : ℕ) → form ≡ Lines → count ≤ 15 → is_begun form count text ≡ true
     → IsHintText form text
 begun_text Lines text count is few begun =
     let parts : (are_lines false text ≡ true) × ((lines_in text == count) ≡ true) = (grind arith, grind arith) in

@@ -36,9 +36,9 @@ abbrev pub is_begun : Form → ℕ → List ℕ → Bool
 is_begun Lines count text = are_lines false text && (lines_in text == count)
 is_begun Json count text = is_open_line text
 
--- The text of a hint: lines, six at most, and as JSON one.
+-- The text of a hint: lines, fifteen at most (six of one fault, and nine of further ones), and as JSON one.
 abbrev pub most_lines : Form → ℕ
-most_lines Lines = 6
+most_lines Lines = 15
 most_lines Json = 1
 
 pub record IsHintText (form : Form) (text : List ℕ) : Type 0 where

@@ -8,8 +8,11 @@ use crate::part::Part;
 use crate::shown::shown_text;
 use std::alloc::{AllocError, Global};
 
-/// The most parts of a hint.
+/// The most parts of a hint of one fault.
 const MOST_PARTS: u8 = 6;
+
+/// The most parts of a hint that tells of further faults: one for each of nine.
+const MOST_OF_SEVERAL: u8 = 15;
 
 /// How a hint is written.
 #[derive(Clone, Copy, Debug, PartialEq, Eq, Drop)]
@@ -20,14 +23,14 @@ pub enum Form {
     Json,
 }
 
-/// A hint while it is put together: six parts at most, each of them a line or an object.
+/// A hint while it is put together: six parts at most, and nine for further faults, each of them a line or an object.
 #[derive(Drop)]
 pub struct Hint {
     form: Form,
     text: Vec<u8>,
     count: u8,
     alloc: Global,
-    ghost few: { count ≤ 6 },
+    ghost few: { count ≤ 15 },
     ghost begun: { is_begun form count text.items ≡ true },
 }
 
@@ -52,7 +55,22 @@ impl Hint {
     pub fn add(&mut self, part: Part, said: &[u8]) -> Result<(), AllocError>
         ensures { self.new.form ≡ self.old.form }
     {
-        if self.count >= MOST_PARTS {
+        self.add_below(MOST_PARTS, part, said)
+    }
+
+    /// Adds a part that stands for a further fault, or behind such parts, where there are fewer than fifteen.
+    pub fn add_further(&mut self, part: Part, said: &[u8]) -> Result<(), AllocError>
+        ensures { self.new.form ≡ self.old.form }
+    {
+        self.add_below(MOST_OF_SEVERAL, part, said)
+    }
+
+    /// Adds a part, where there are fewer than so many.
+    fn add_below(&mut self, most: u8, part: Part, said: &[u8]) -> Result<(), AllocError>
+        requires { most ≤ 15 }
+        ensures { self.new.form ≡ self.old.form }
+    {
+        if self.count >= most {
             return Ok(());
         }
         let piece = self.piece_of(part, said)?;

@@ -22,6 +22,8 @@ pub enum Part {
     Line,
     /// Why it is refused.
     Cause,
+    /// What else is refused, and where.
+    Further,
     /// What may stand there.
     Expected,
     /// What was meant, probably.
@@ -49,6 +51,7 @@ impl Part {
             Part::Word => "word",
             Part::Line => "line",
             Part::Cause => "cause",
+            Part::Further => "further",
             Part::Expected => "expected",
             Part::Meant => "meant",
             Part::Usually => "usually",

@@ -8,7 +8,7 @@ use Rattle.litmus_runs.specs.Numbers.{initial_number}
 use Rattle.rv_instr.specs.{declared.kind.Kind.Kind, Kinds.kind_of_instr}
 use Rattle.rv_instr.specs.declared.kind.Kind.TheVariants.{Computing, Loading, Storing, Reserving, Conditional, Atomic}
 use Rattle.litmus_tests.specs.declared.step.LitmusStep.{LitmusStep}
-use Rattle.litmus_tests.specs.declared.step.LitmusStep.TheVariants.{Straight, Constant, Branch}
+use Rattle.litmus_tests.specs.declared.step.LitmusStep.TheVariants.{Straight, Constant, Branch, Fence}
 use Rattle.litmus_cycles.specs.declared.{event.MemoryEvent.MemoryEvent, event.Relation.Relation, event.Edge.Edge}
 use Rattle.litmus_cycles.specs.declared.explanation.Broken.{Broken}
 use Rattle.litmus_cycles.specs.declared.event.Relation.TheVariants.{ProgramOrder, ReadsFrom, Coherence}
@@ -126,7 +126,8 @@ accesses_as Atomic event = is_read event && is_write event
 abbrev pub does_as : LitmusStep → MemoryEvent → Bool
 does_as (Straight instruction) event = accesses_as (kind_of_instr instruction) event
 does_as (Constant register value) event = false
-does_as (Branch comparison left right target) event = false
+does_as (Branch op left right target) event = false
+does_as (Fence fence) event = false
 
 -- Its step is one of its hart, and accesses memory so.
 abbrev pub is_made : LitmusTest → MemoryEvent → Bool

@@ -44,7 +44,7 @@ pub(crate) fn next_candidate(
         chosen: chosen.as_slice(),
         events: Some(events.as_slice()),
     };
-    let meets = ending.meets(&test.condition) == Some(true);
+    let meets = ending.is_asked_for() == Some(true);
     if meets {
         Ok(Candidate::Meets(events))
     } else {
@@ -79,7 +79,7 @@ fn is_ruled_out(test: &LitmusTest, runs: &AllRuns, chosen: &[usize]) -> bool {
         chosen,
         events: None,
     };
-    ending.meets(&test.condition) == Some(false)
+    ending.is_asked_for() == Some(false)
 }
 
 /// Adds the events of the chosen runs, hart by hart. Answers false where there are too many.

@@ -163,7 +163,7 @@ fn does_as(step: LitmusStep, event: &MemoryEvent) -> bool
 {
     match step {
         LitmusStep::Straight(instr) => accesses_as(instr.kind(), event),
-        LitmusStep::Constant { .. } | LitmusStep::Branch { .. } => false,
+        LitmusStep::Constant { .. } | LitmusStep::Branch { .. } | LitmusStep::Fence(_) => false,
     }
 }
 

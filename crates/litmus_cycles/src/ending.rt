@@ -16,14 +16,28 @@ pub(crate) struct Ending<'test, 'runs, 'chosen, 'events> {
 }
 
 impl Ending<'_, '_, '_, '_> {
+    /// Whether it is a final state of the test, and its condition holds; none where what isn't chosen yet decides.
+    pub fn is_asked_for(&self) -> Option<bool> {
+        both(
+            self.meets(&self.test.filter),
+            self.meets(&self.test.condition),
+        )
+    }
+
     /// Whether a condition holds; none where what isn't chosen yet decides.
-    pub fn meets(&self, condition: &Condition) -> Option<bool> {
+    fn meets(&self, condition: &Condition) -> Option<bool> {
         match condition {
             Condition::Always => Some(true),
             Condition::Holds(term) => self.meets_term(term),
             Condition::Not(negated) => Some(!self.meets(negated)?),
             Condition::Both(first, second) => both(self.meets(first), self.meets(second)),
             Condition::Either(first, second) => either(self.meets(first), self.meets(second)),
+            Condition::Implies(first, second) => {
+                either(negated(self.meets(first)), self.meets(second))
+            }
+            Condition::Equivalent(first, second) => {
+                Some(self.meets(first)? == self.meets(second)?)
+            }
         }
     }
 
@@ -60,6 +74,10 @@ fn last_write(events: &[MemoryEvent], location: usize) -> Option<u32> {
         }
     }
     last
+}
+
+fn negated(one: Option<bool>) -> Option<bool> {
+    Some(!one?)
 }
 
 fn both(first: Option<bool>, second: Option<bool>) -> Option<bool> {

@@ -12,7 +12,7 @@ use Rattle.numbers.specs.Sizes.{most_harts}
 use Rattle.rv_instr.specs.declared.instr.Instr.TheVariants as instr
 use Rattle.smt_model.specs.Basics.{below}
 use Rattle.litmus_tests.specs.declared.step.LitmusStep.{LitmusStep}
-use Rattle.litmus_tests.specs.declared.step.LitmusStep.TheVariants.{Straight, Constant, Branch}
+use Rattle.litmus_tests.specs.declared.step.LitmusStep.TheVariants.{Straight, Constant, Branch, Fence}
 use Rattle.litmus_tests.specs.declared.test.{LitmusTest.LitmusTest, RegisterStart.RegisterStart, Thread.Thread}
 use Rattle.litmus_tests.specs.{Limits.most_thread_words, WellFormed.IsThread, WellFormed.IsWellFormed}
 use Rattle.litmus_tests.specs.WellFormed.{step_length, thread_length}
@@ -26,7 +26,8 @@ step_length_is : (steps : List LitmusStep) (index : ℕ) (step : LitmusStep)
 unfolding constant_words
 step_length_is steps index (Straight instruction) = refl
 step_length_is steps index (Constant register value) = refl
-step_length_is steps index (Branch comparison left right target) = refl
+step_length_is steps index (Branch op left right target) = refl
+step_length_is steps index (Fence fence) = refl
 
 starts_length : (starts : List RegisterStart) → length (flat_map start_words starts) ≡ 2 * length starts
 unfolding constant_words

@@ -13,13 +13,13 @@ use Rattle.rv_instr.specs.Table.{IsSigned, IsDistance, IsUpper, IsInstructionInR
 use Rattle.smt_model.specs.Basics.{below}
 use Rattle.litmus_tests.specs.Conditions.{number_of}
 use Rattle.litmus_tests.specs.declared.step.LitmusStep.{LitmusStep}
-use Rattle.litmus_tests.specs.declared.step.LitmusStep.TheVariants.{Straight, Constant, Branch}
+use Rattle.litmus_tests.specs.declared.step.LitmusStep.TheVariants.{Straight, Constant, Branch, Fence}
 use Rattle.litmus_tests.specs.declared.test.{LitmusTest.LitmusTest, Thread.Thread}
 use Rattle.litmus_tests.specs.WellFormed.{IsStart, IsStep, IsThread, IsWellFormed}
 use Rattle.litmus_images.specs.{Words.lower_part, Words.upper_part, Words.constant_words}
 use Rattle.litmus_images.specs.{Words.distance, Words.jump_reach, Words.jump_words}
 use Rattle.litmus_images.proofs.{Lengths.place_small, Lengths.block_place_small, Sound.threads_sound}
-use Rattle.litmus_images.specs.{Steps.branch_op, Steps.step_place, Steps.step_words, Steps.words_at, Steps.steps_words}
+use Rattle.litmus_images.specs.{Steps.step_place, Steps.step_words, Steps.words_at, Steps.steps_words}
 use Rattle.litmus_images.specs.{Code.start_words, Code.thread_words, Code.block_place, Code.turn_words}
 use Rattle.litmus_images.specs.{Code.dispatch_words, Code.code_of}
 
@@ -71,14 +71,15 @@ step_in_range : (steps : List LitmusStep) (index : ℕ) → length steps ≤ 500
     → All IsInstructionInRange (step_words steps index step)
 step_in_range steps index few (Straight instruction) sound = one_in_range instruction sound.0
 step_in_range steps index few (Constant register value) sound = constant_in_range register value sound
-step_in_range steps index few (Branch comparison left right target) sound =
-    one_in_range (instr.Branch (branch_op comparison) left right
+step_in_range steps index few (Branch op left right target) sound =
+    one_in_range (instr.Branch op left right
     (distance (step_place steps index) (step_place steps target))) (
       sound.0,
       sound.1,
       branch_in_range (step_place steps index) (step_place steps target)
           (place_small steps index few) (place_small steps target few),
     )
+step_in_range steps index few (Fence fence) sound = one_in_range instr.Fence tt
 
 steps_in_range : (steps : List LitmusStep) → length steps ≤ 500 → All (IsStep (length steps)) steps
     → All IsInstructionInRange (steps_words steps)

@@ -1,13 +1,11 @@
 -- The words of a hart's steps.
 use Rattle.std.specs.Prelude.{ℕ, List, [], ◌∷◌, length, take, sum_by, flat_map, slice_get}
 use Rattle.std.specs.{Option.option_map_or}
-use Rattle.rv_instr.specs.declared.instr.{Instr.Instr, BranchOp.BranchOp}
-use Rattle.rv_instr.specs.declared.instr.BranchOp.TheVariants.{Beq, Bne}
+use Rattle.rv_instr.specs.declared.instr.Instr.{Instr}
 use Rattle.rv_instr.specs.declared.instr.Instr.TheVariants as instr
 use Rattle.smt_model.specs.Basics.{below}
-use Rattle.litmus_tests.specs.declared.step.{LitmusStep.LitmusStep, Comparison.Comparison}
-use Rattle.litmus_tests.specs.declared.step.LitmusStep.TheVariants.{Straight, Constant, Branch}
-use Rattle.litmus_tests.specs.declared.step.Comparison.TheVariants.{Equal, Different}
+use Rattle.litmus_tests.specs.declared.step.LitmusStep.{LitmusStep}
+use Rattle.litmus_tests.specs.declared.step.LitmusStep.TheVariants.{Straight, Constant, Branch, Fence}
 use Rattle.litmus_tests.specs.WellFormed.{step_length}
 use Rattle.litmus_images.specs.Words.{constant_words, distance}
 
@@ -15,17 +13,14 @@ use Rattle.litmus_images.specs.Words.{constant_words, distance}
 unfoldable pub step_place : List LitmusStep → ℕ → ℕ
 step_place steps index = sum_by step_length (take index steps)
 
-abbrev pub branch_op : Comparison → BranchOp
-branch_op Equal = Beq
-branch_op Different = Bne
-
 -- The words of the step with this index.
 abbrev pub step_words : List LitmusStep → ℕ → LitmusStep → List Instr
 step_words steps index (Straight instruction) = instruction ∷ []
 step_words steps index (Constant register value) = constant_words register value
-step_words steps index (Branch comparison left right target) =
-    instr.Branch (branch_op comparison) left right
+step_words steps index (Branch op left right target) =
+    instr.Branch op left right
     (distance (step_place steps index) (step_place steps target)) ∷ []
+step_words steps index (Fence fence) = instr.Fence ∷ []
 
 abbrev pub words_at : List LitmusStep → ℕ → List Instr
 words_at steps index = option_map_or (λ step. step_words steps index step) (slice_get steps index) []

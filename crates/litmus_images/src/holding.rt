@@ -86,7 +86,25 @@ fn condition_holds(condition: &Condition, test: &LitmusTest, outcome: &Outcome) 
         Condition::Either(first, second) => {
             condition_holds(first, test, outcome) || condition_holds(second, test, outcome)
         }
+        Condition::Implies(first, second) => {
+            !condition_holds(first, test, outcome) || condition_holds(second, test, outcome)
+        }
+        Condition::Equivalent(first, second) => {
+            if condition_holds(first, test, outcome) {
+                condition_holds(second, test, outcome)
+            } else {
+                !condition_holds(second, test, outcome)
+            }
+        }
     }
+}
+
+/// Whether an outcome that was found for the test's watch is a final state of the test: its filter holds of it.
+pub fn passes(test: &LitmusTest, outcome: &Outcome) -> bool
+    requires { IsWellFormed test.now }
+    ensures { result ≡ holds (final_state test.now outcome.now) test.now.filter }
+{
+    condition_holds(&test.filter, test, outcome)
 }
 
 /// Whether the test's condition holds of an outcome that was found for the test's watch.

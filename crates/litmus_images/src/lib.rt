@@ -12,6 +12,6 @@ mod image;
 mod steps;
 mod watching;
 
-pub use holding::{holds_in, value_in};
+pub use holding::{holds_in, passes, value_in};
 pub use image::image_of;
 pub use watching::{harts_of, watch_of};

@@ -3,11 +3,11 @@
 ghost use Rattle.std.specs.Prelude.{◌≡◌, ◌≤◌, ◌<◌, ◌*◌, ◌++◌, length, All, OnOk};
 ghost use Rattle.litmus_tests.specs.WellFormed.{IsStep};
 ghost use Rattle.litmus_tests.specs.Limits.{most_steps};
-ghost use Rattle.litmus_images.specs.Steps.{step_place, words_at, steps_words, branch_op};
+ghost use Rattle.litmus_images.specs.Steps.{step_place, words_at, steps_words};
 
 use crate::constants::{distance, push_constant};
-use litmus_tests::{Comparison, LitmusStep};
-use rv_instr::{BranchOp, Instr};
+use litmus_tests::LitmusStep;
+use rv_instr::Instr;
 use std::alloc::AllocError;
 
 /// How many words stand before the step with this index, the end of the steps among them.
@@ -25,15 +25,6 @@ pub(crate) fn step_place(steps: &[LitmusStep], index: usize) -> usize
     place
 }
 
-fn branch_op(comparison: Comparison) -> BranchOp
-    ensures { result ≡ branch_op comparison }
-{
-    match comparison {
-        Comparison::Equal => BranchOp::Beq,
-        Comparison::Different => BranchOp::Bne,
-    }
-}
-
 /// Appends the words of a step.
 fn push_step(code: &mut Vec<Instr>, steps: &[LitmusStep], index: usize) -> Result<(), AllocError>
     requires short { length steps.now ≤ most_steps }
@@ -45,16 +36,17 @@ fn push_step(code: &mut Vec<Instr>, steps: &[LitmusStep], index: usize) -> Resul
         LitmusStep::Straight(instruction) => code.push(instruction)?,
         LitmusStep::Constant { register, value } => push_constant(code, register, value)?,
         LitmusStep::Branch {
-            comparison,
+            op,
             left,
             right,
             target,
         } => code.push(Instr::Branch {
-            op: branch_op(comparison),
+            op,
             rs1: left,
             rs2: right,
             offset: distance(step_place(steps, index), step_place(steps, target)),
         })?,
+        LitmusStep::Fence(_) => code.push(Instr::Fence)?,
     }
     Ok(())
 }

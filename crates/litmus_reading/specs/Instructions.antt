@@ -1,16 +1,18 @@
 -- Which tokens spell an instruction: its name, and its operands (RISC-V Unprivileged ISA; the RISC-V Assembly
 -- Programmer's Manual for the order of operands).
-use Rattle.std.specs.Prelude.{◌≡◌, ◌⊎◌, ◌≤◌, ℕ, ℤ, pos, List, [], ◌∷◌, ◌++◌}
+use Rattle.std.specs.Prelude.{◌≡◌, ◌⊎◌, ◌≤◌, ◌<◌, ◌*◌, ◌^◌, ℕ, ℤ, pos, List, [], ◌∷◌, ◌++◌}
 use Rattle.rv_instr.specs.Table.{IsSigned}
 use Rattle.rv_instr.specs.declared.instr.Instr.{Instr}
 use Rattle.rv_instr.specs.declared.instr.Instr.TheVariants as instr
 use Rattle.rv_instr.specs.declared.instr.ImmediateOp.TheVariants.{Addi}
+use Rattle.rv_instr.specs.declared.instr.BranchOp.TheVariants.{Beq}
 use Rattle.rv_text.specs.{declared.operands.Operands.Operands, Operands.instr_with}
 use Rattle.rv_text.specs.declared.mnemonic.{Mnemonic.Mnemonic as Row}
 use Rattle.rv_text.specs.declared.mnemonic.Mnemonic.TheVariants as row_of
 use Rattle.rv_text.specs.declared.mnemonic.AtomicOp.TheVariants as atomic
 use Rattle.litmus_reading.specs.declared.instruction.Written.{Written}
-use Rattle.litmus_reading.specs.declared.instruction.Written.TheVariants.{Straight, Constant, Branch}
+use Rattle.litmus_reading.specs.declared.instruction.Written.TheVariants.{Straight, Constant, Branch, Fence}
+use Rattle.litmus_tests.specs.declared.fence.Fence.TheVariants.{Sets, TotalStoreOrder}
 use Rattle.litmus_words.specs.declared.mnemonic.Mnemonic.{Mnemonic}
 use Rattle.litmus_words.specs.declared.mnemonic.Mnemonic.TheVariants as name
 use Rattle.litmus_words.specs.declared.word.Token.{Token}
@@ -80,6 +82,15 @@ pub record SpellsAmount (text : List Token) (rd rs1 amount : ℕ) : Type 0 where
   pub small : amount ≤ 31
   pub spelled : text ≡ Register rd ∷ Mark mark.Comma ∷ Register rs1 ∷ Mark mark.Comma ∷ number
 
+-- `x5,0x12345`: the upper twenty bits of a word.
+pub record SpellsUpper (text : List Token) (rd upper : ℕ) : Type 0 where
+  pub number : List Token
+  pub bits : ℕ
+  pub spells : SpellsInteger number (pos bits)
+  pub small : bits < 2 ^ 20
+  pub word : upper ≡ bits * 4096
+  pub spelled : text ≡ Register rd ∷ Mark mark.Comma ∷ number
+
 -- `x7,x5,(x6)`.
 pub record SpellsAtomic (text : List Token) (rd rs2 rs1 : ℕ) : Type 0 where
   pub address : List Token
@@ -94,11 +105,13 @@ pub record SpellsConstant (text : List Token) (register value : ℕ) : Type 0 wh
 
 -- The operands of a row, and the instruction that it is with them.
 abbrev pub SpellsOperands : Row → List Token → Operands → Type 0
+SpellsOperands row_of.Lui text operands = SpellsUpper text operands.rd operands.upper
 SpellsOperands (row_of.Load op) text operands = SpellsMemory text operands.rd operands.offset operands.rs1
 SpellsOperands (row_of.Store op) text operands = SpellsMemory text operands.rs2 operands.offset operands.rs1
 SpellsOperands (row_of.Immediate op) text operands = SpellsImmediate text operands.rd operands.rs1 operands.offset
 SpellsOperands (row_of.Shift op) text operands = SpellsAmount text operands.rd operands.rs1 operands.amount
 SpellsOperands (row_of.Register op) text operands = text ≡ triple operands.rd operands.rs1 operands.rs2
+SpellsOperands (row_of.MulDiv op) text operands = text ≡ triple operands.rd operands.rs1 operands.rs2
 SpellsOperands (row_of.Atomic atomic.LoadReserved ordering) text operands =
     SpellsMemory text operands.rd (pos 0) operands.rs1
 SpellsOperands (row_of.Atomic op ordering) text operands =
@@ -110,31 +123,39 @@ pub record SpellsRow (row : Row) (text : List Token) (instruction : Instr) : Typ
   pub spells : SpellsOperands row text operands
   pub made : instruction ≡ instr_with row operands
 
--- The operands of an instruction behind which the hart goes on. A fence may have any.
+-- The operands of an instruction behind which the hart goes on.
 abbrev pub SpellsStraight : Mnemonic → List Token → Instr → Type 0
 SpellsStraight (name.Row row) text instruction = SpellsRow row text instruction
 SpellsStraight name.Move text (instr.Immediate Addi rd rs1 imm) = (imm ≡ pos 0) × (text ≡ pair rd rs1)
 SpellsStraight name.Nothing text (instr.Immediate Addi rd rs1 imm) =
     (imm ≡ pos 0) × (rd ≡ 0) × (rs1 ≡ 0) × (text ≡ [])
-SpellsStraight name.Fence text instr.Fence = Unit {0}
-SpellsStraight name.TotalStoreOrderFence text instr.Fence = text ≡ []
 SpellsStraight mnemonic text instruction = ⊥
 
 -- A branch names its target by a word.
 abbrev pub SpellsBranch : Mnemonic → List Token → Written → Type 0
-SpellsBranch (name.Branch comparison) text (Branch comparison' left right label) = (comparison ≡ comparison')
+SpellsBranch (name.Branch op) text (Branch op' left right label) = (op ≡ op')
     × (text ≡ Register left ∷ Mark mark.Comma ∷ Register right ∷ Mark mark.Comma ∷ label.token ∷ [])
-SpellsBranch (name.BranchZero comparison) text (Branch comparison' left right label) = (comparison ≡ comparison')
+SpellsBranch (name.SwappedBranch op) text (Branch op' left right label) = (op ≡ op')
+    × (text ≡ Register right ∷ Mark mark.Comma ∷ Register left ∷ Mark mark.Comma ∷ label.token ∷ [])
+SpellsBranch (name.BranchZero op) text (Branch op' left right label) = (op ≡ op')
     × (right ≡ 0) × (text ≡ Register left ∷ Mark mark.Comma ∷ label.token ∷ [])
+SpellsBranch (name.ZeroBranch op) text (Branch op' left right label) = (op ≡ op')
+    × (left ≡ 0) × (text ≡ Register right ∷ Mark mark.Comma ∷ label.token ∷ [])
+SpellsBranch name.Jump text (Branch op' left right label) = (op' ≡ Beq) × (left ≡ 0) × (right ≡ 0)
+    × (text ≡ label.token ∷ [])
+SpellsBranch name.JumpAndLink text (Branch op' left right label) = (op' ≡ Beq) × (left ≡ 0) × (right ≡ 0)
+    × (text ≡ Register 0 ∷ Mark mark.Comma ∷ label.token ∷ [])
 SpellsBranch mnemonic text written = ⊥
 
--- The operands of an instruction of this name.
+-- The operands of an instruction of this name. Those of a fence with sets stand in `Fences`.
 abbrev pub SpellsWritten : Mnemonic → List Token → Written → Type 0
 SpellsWritten mnemonic text (Straight instruction) = SpellsStraight mnemonic text instruction
 SpellsWritten name.Constant text (Constant register value) = SpellsConstant text register value
 SpellsWritten mnemonic text (Constant register value) = ⊥
-SpellsWritten mnemonic text (Branch comparison left right label) =
-    SpellsBranch mnemonic text (Branch comparison left right label)
+SpellsWritten name.Fence text (Fence (Sets before after)) = Unit {0}
+SpellsWritten name.TotalStoreOrderFence text (Fence TotalStoreOrder) = text ≡ []
+SpellsWritten mnemonic text (Fence fence) = ⊥
+SpellsWritten mnemonic text (Branch op left right label) = SpellsBranch mnemonic text (Branch op left right label)
 
 -- The words spell the instruction: its name, and behind it its operands.
 pub record SpellsInstruction (words : List Word) (written : Written) : Type 0 where

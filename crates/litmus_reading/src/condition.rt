@@ -1,5 +1,5 @@
-//! Conditions, by recursive descent: `\/` of `/\` of what stands alone. The recursion is as deep as `not` and
-//! parentheses are nested, which is bounded.
+//! Conditions, by recursive descent: `<=>` of `=>` of `\/` of `/\` of what stands alone. The recursion is as deep as
+//! `not` and parentheses are nested, and as there are terms before a `=>`; both are bounded.
 
 ghost use Rattle.std.specs.Prelude.{◌<◌, IfOk};
 ghost use Rattle.litmus_reading.specs.Grammar.{
@@ -7,11 +7,14 @@ ghost use Rattle.litmus_reading.specs.Grammar.{
   IsNegation,
   IsConjunction,
   IsDisjunction,
+  IsImplication,
+  IsEquivalence,
 };
 ghost use Rattle.litmus_words.specs.Parts.{ObservedTaken};
+ghost use Rattle.litmus_tests.specs.declared.condition.Condition.{Holds};
 
 use litmus_tests::test::MOST_TERMS;
-use litmus_tests::{Condition, Observed, Term};
+use litmus_tests::{Condition, Observed, Term, Value};
 use litmus_words::{
     Fault, Mark, Stop, Token, Word, behind_mark, location, mark, next, register_but_zero, start_of,
     value,
@@ -33,10 +36,48 @@ pub(crate) struct Leaves {
     pub observed: Vec<Observed>,
 }
 
-/// Reads conditions with `\/` between, whose leaves go behind `leaves`; `room` says how many levels may be nested in
+/// Reads conditions with `<=>` between, whose leaves go behind `leaves`; `room` says how many levels may be nested in
 /// it.
 #[cycle(condition)]
 pub(crate) fn read_condition<'a>(
+    asked: &Asked,
+    words: &'a [Word],
+    room: u8,
+    leaves: &mut Leaves,
+) -> Result<(Condition, &'a [Word]), Stop>
+    ensures { IfOk result (λ p. ConditionTaken 4 words.now p.0 p.1.now) }
+{
+    let (mut condition, mut rest) = read_implied(asked, words, room, leaves)?;
+    while let Some(behind) = behind_mark(rest, Mark::Equivalent) {
+        let (right, behind) = read_implied(asked, behind, room, leaves)?;
+        condition = equivalence(condition, right, asked.alloc)?;
+        rest = behind;
+    }
+    Ok((condition, rest))
+}
+
+/// Reads conditions with `=>` between, the last two first.
+#[cycle(condition)]
+fn read_implied<'a>(
+    asked: &Asked,
+    words: &'a [Word],
+    room: u8,
+    leaves: &mut Leaves,
+) -> Result<(Condition, &'a [Word]), Stop>
+    ensures { IfOk result (λ p. ConditionTaken 3 words.now p.0 p.1.now) }
+{
+    let (left, rest) = read_either(asked, words, room, leaves)?;
+    let Some(behind) = behind_mark(rest, Mark::Implies) else {
+        return Ok((left, rest));
+    };
+    let (right, rest) = read_implied(asked, behind, room, leaves)?;
+    let whole = implication(left, right, asked.alloc)?;
+    Ok((whole, rest))
+}
+
+/// Reads conditions with `\/` between.
+#[cycle(condition)]
+fn read_either<'a>(
     asked: &Asked,
     words: &'a [Word],
     room: u8,
@@ -118,7 +159,25 @@ fn read_leaf<'a>(
         count_leaf(asked, words, leaves)?;
         return Ok((Condition::Always, behind));
     }
+    read_term(asked, words, leaves)
+}
+
+/// Reads a term, with `=` or with `!=`.
+fn read_term<'a>(
+    asked: &Asked,
+    words: &'a [Word],
+    leaves: &mut Leaves,
+) -> Result<(Condition, &'a [Word]), Stop>
+    ensures { IfOk result (λ p. ConditionTaken 0 words.now p.0 p.1.now) }
+{
     let (observed, rest) = read_observed(asked, words)?;
+    if let Some(behind) = behind_mark(rest, Mark::Differs) {
+        let (other, rest) = value(behind, asked.end)?;
+        count_leaf(asked, words, leaves)?;
+        leaves.observed.push(observed)?;
+        let whole = differing(observed, other, asked.alloc)?;
+        return Ok((whole, rest));
+    }
     let rest = mark(rest, Mark::Equals, asked.end)?;
     let (value, rest) = value(rest, asked.end)?;
     count_leaf(asked, words, leaves)?;
@@ -156,6 +215,13 @@ pub(crate) fn read_observed<'a>(
     Ok((Observed::Register { hart, register }, rest))
 }
 
+/// That what is looked at doesn't hold this value.
+fn differing(observed: Observed, value: Value, alloc: Global) -> Result<Condition, AllocError>
+    ensures { IfOk result (IsNegation (Holds (record { observed = observed; value = value }))) }
+{
+    negation(Condition::Holds(Term { observed, value }), alloc)
+}
+
 fn negation(inner: Condition, alloc: Global) -> Result<Condition, AllocError>
     ensures { IfOk result (IsNegation inner) }
 {
@@ -174,4 +240,18 @@ fn either(left: Condition, right: Condition, alloc: Global) -> Result<Condition,
 {
     let left = Box::new(alloc, left)?;
     Ok(Condition::Either(left, Box::new(alloc, right)?))
+}
+
+fn implication(left: Condition, right: Condition, alloc: Global) -> Result<Condition, AllocError>
+    ensures { IfOk result (IsImplication left right) }
+{
+    let left = Box::new(alloc, left)?;
+    Ok(Condition::Implies(left, Box::new(alloc, right)?))
+}
+
+fn equivalence(left: Condition, right: Condition, alloc: Global) -> Result<Condition, AllocError>
+    ensures { IfOk result (IsEquivalence left right) }
+{
+    let left = Box::new(alloc, left)?;
+    Ok(Condition::Equivalent(left, Box::new(alloc, right)?))
 }

@@ -6,26 +6,30 @@ ghost use Rattle.litmus_reading.specs.Instructions.{SpellsInstruction, SpellsWri
 ghost use Rattle.litmus_words.specs.declared.mnemonic.Mnemonic.TheVariants as name;
 ghost use Rattle.rv_instr.specs.declared.instr.Instr.TheVariants as instr;
 ghost use Rattle.rv_instr.specs.declared.instr.ImmediateOp.TheVariants as immediate_op;
+ghost use Rattle.rv_instr.specs.declared.instr.BranchOp.TheVariants.{Beq};
+ghost use Rattle.litmus_reading.specs.declared.instruction.Written.TheVariants.{Branch};
 
-use crate::operands::{operands_of, register_label, registers_label, two_registers};
-use litmus_tests::Comparison;
+use crate::fences::{read_fence, total_store_order_fence};
+use crate::operands::{last_label, operands_of, register_label, registers_label, two_registers};
+use litmus_tests::Fence;
 use litmus_words::{
-    Fault, Mark, Mnemonic, Stop, Token, Word, bytes_of, mark, next, nothing, register, word_number,
+    Fault, Mark, Mnemonic, Stop, Token, Word, mark, next, nothing, register, start_of, word_number,
 };
 use numbers::Reg;
-use rv_instr::{ImmediateOp, Instr};
+use rv_instr::{BranchOp, ImmediateOp, Instr};
 use rv_text::{Mnemonic as Row, instr_with};
 
 /// An instruction as it stands in a cell: a branch has the name of its target yet.
 #[derive(Clone, Copy, Drop)]
 pub(crate) enum Written {
     Straight(Instr),
+    Fence(Fence),
     Constant {
         register: Reg,
         value: u32,
     },
     Branch {
-        comparison: Comparison,
+        op: BranchOp,
         left: Reg,
         right: Reg,
         label: Word,
@@ -42,9 +46,14 @@ pub(crate) fn read_instruction(text: &[u8], words: &[Word], end: usize) -> Resul
     };
     match mnemonic {
         Mnemonic::Constant => constant(operands, end),
-        Mnemonic::Branch(comparison) => branch(comparison, operands, end),
-        Mnemonic::BranchZero(comparison) => branch_zero(comparison, operands, end),
-        Mnemonic::Fence => fence(text, operands, end),
+        Mnemonic::Branch(op) => branch(op, operands, end),
+        Mnemonic::SwappedBranch(op) => swapped_branch(op, operands, end),
+        Mnemonic::BranchZero(op) => branch_zero(op, operands, end),
+        Mnemonic::ZeroBranch(op) => zero_branch(op, operands, end),
+        Mnemonic::Jump => jump(operands, end),
+        Mnemonic::JumpAndLink => jump_and_link(operands, end),
+        Mnemonic::Fence => read_fence(text, operands, end),
+        Mnemonic::TotalStoreOrderFence => total_store_order_fence(operands),
         _ => match straight(mnemonic, operands, end) {
             Ok(instr) => Ok(Written::Straight(instr)),
             Err(stop) => Err(stop),
@@ -64,12 +73,25 @@ fn constant(operands: &[Word], end: usize) -> Result<Written, Stop>
 }
 
 /// `bne x5,x6,L0`.
-fn branch(comparison: Comparison, operands: &[Word], end: usize) -> Result<Written, Stop>
-    ensures { IfOk result (SpellsWritten (name.Branch comparison) (tokens operands.now)) }
+fn branch(op: BranchOp, operands: &[Word], end: usize) -> Result<Written, Stop>
+    ensures { IfOk result (SpellsWritten (name.Branch op) (tokens operands.now)) }
 {
     let (left, right, label) = registers_label(operands, end)?;
     Ok(Written::Branch {
-        comparison,
+        op,
+        left,
+        right,
+        label,
+    })
+}
+
+/// `bgt x5,x6,L0`: `blt x6,x5,L0`.
+fn swapped_branch(op: BranchOp, operands: &[Word], end: usize) -> Result<Written, Stop>
+    ensures { IfOk result (SpellsWritten (name.SwappedBranch op) (tokens operands.now)) }
+{
+    let (right, left, label) = registers_label(operands, end)?;
+    Ok(Written::Branch {
+        op,
         left,
         right,
         label,
@@ -77,47 +99,64 @@ fn branch(comparison: Comparison, operands: &[Word], end: usize) -> Result<Writt
 }
 
 /// `bnez x5,L0`.
-fn branch_zero(comparison: Comparison, operands: &[Word], end: usize) -> Result<Written, Stop>
-    ensures { IfOk result (SpellsWritten (name.BranchZero comparison) (tokens operands.now)) }
+fn branch_zero(op: BranchOp, operands: &[Word], end: usize) -> Result<Written, Stop>
+    ensures { IfOk result (SpellsWritten (name.BranchZero op) (tokens operands.now)) }
 {
     let (left, label) = register_label(operands, end)?;
     Ok(Written::Branch {
-        comparison,
+        op,
         left,
         right: 0,
         label,
     })
 }
 
-/// `fence`, alone or with two sets of accesses.
-fn fence(text: &[u8], operands: &[Word], end: usize) -> Result<Written, Stop>
-    ensures { IfOk result (SpellsWritten name.Fence (tokens operands.now)) }
+/// `bgtz x5,L0`: `blt x0,x5,L0`.
+fn zero_branch(op: BranchOp, operands: &[Word], end: usize) -> Result<Written, Stop>
+    ensures { IfOk result (SpellsWritten (name.ZeroBranch op) (tokens operands.now)) }
 {
-    if operands.is_empty() {
-        return Ok(Written::Straight(Instr::Fence));
+    let (right, label) = register_label(operands, end)?;
+    Ok(Written::Branch {
+        op,
+        left: 0,
+        right,
+        label,
+    })
+}
+
+/// `j L0`: `beq x0,x0,L0`.
+fn jump(operands: &[Word], end: usize) -> Result<Written, Stop>
+    ensures { IfOk result (SpellsWritten name.Jump (tokens operands.now)) }
+{
+    let label = last_label(operands, end)?;
+    Ok(jump_to(label))
+}
+
+/// `jal x0,L0`, which is `j L0`. Another register would hold the address of the instruction behind it, and a test has no
+/// addresses of code.
+fn jump_and_link(operands: &[Word], end: usize) -> Result<Written, Stop>
+    ensures { IfOk result (SpellsWritten name.JumpAndLink (tokens operands.now)) }
+{
+    let (link, label) = register_label(operands, end)?;
+    if link != 0 {
+        return Err(Stop::at(start_of(operands, end), Fault::LinkRegister));
     }
-    let rest = accesses(text, operands, end)?;
-    let rest = mark(rest, Mark::Comma, end)?;
-    let rest = accesses(text, rest, end)?;
-    nothing(rest, Fault::NotOfSubset)?;
-    Ok(Written::Straight(Instr::Fence))
+    Ok(jump_to(label))
 }
 
-/// A set of accesses, by its letters.
-fn accesses<'a>(text: &[u8], words: &'a [Word], end: usize) -> Result<&'a [Word], Stop> {
-    let (word, rest) = next(words, end)?;
-    if !bytes_of(text, word).iter().all(|letter| is_access(*letter)) {
-        return Err(Stop::at(word.start, Fault::NotOfSubset));
+/// A branch that is taken.
+fn jump_to(label: Word) -> Written
+    ensures { result ≡ Branch Beq 0 0 label }
+{
+    Written::Branch {
+        op: BranchOp::Beq,
+        left: 0,
+        right: 0,
+        label,
     }
-    Ok(rest)
 }
 
-/// Input, output, reads and writes.
-fn is_access(letter: u8) -> bool {
-    letter == b'i' || letter == b'o' || letter == b'r' || letter == b'w'
-}
-
-/// The instructions behind which the hart goes on, but for `li` and `fence`.
+/// The instructions behind which the hart goes on, but for `li` and fences.
 fn straight(mnemonic: Mnemonic, operands: &[Word], end: usize) -> Result<Instr, Stop>
     ensures { IfOk result (SpellsStraight mnemonic (tokens operands.now)) }
 {
@@ -125,7 +164,6 @@ fn straight(mnemonic: Mnemonic, operands: &[Word], end: usize) -> Result<Instr, 
         Mnemonic::Row(row) => of_row(row, operands, end),
         Mnemonic::Move => move_register(operands, end),
         Mnemonic::Nothing => no_operation(operands),
-        Mnemonic::TotalStoreOrderFence => total_store_order_fence(operands),
         _ => Err(Stop::at(end, Fault::NotOfSubset)),
     }
 }
@@ -149,13 +187,6 @@ fn no_operation(operands: &[Word]) -> Result<Instr, Stop>
 {
     nothing(operands, Fault::NotOfSubset)?;
     Ok(addition(0, 0))
-}
-
-fn total_store_order_fence(operands: &[Word]) -> Result<Instr, Stop>
-    ensures { IfOk result (SpellsStraight name.TotalStoreOrderFence (tokens operands.now)) }
-{
-    nothing(operands, Fault::NotOfSubset)?;
-    Ok(Instr::Fence)
 }
 
 /// `addi rd,rs1,0`.

@@ -3,23 +3,26 @@
 //!
 //! The subset: `RISCV NAME`; a string and lines `Key=..`, which are skipped; the start in braces (`0:x5=1; 0:x6=x;
 //! int y=2; [z]=1`), whose names are the locations; the harts (`P0 | P1 ;`); rows of cells with a label and an
-//! instruction or less (lw, sw, lr.w, sc.w, the AMOs of a word with their ordering bits, li, addi, ori, andi, xori,
-//! slli, add, sub, xor, or, and, mv, nop, beq, bne, beqz, bnez, fence with two sets or none, fence.tso);
-//! `locations [..]`; and `exists`, `~exists` or `forall` with a condition of terms, `true`, `~`, `not`, `/\`, `\/` and
-//! parentheses. Comments `(* .. *)` may be nested.
+//! instruction or less (every one of RV32IMA behind which a hart goes on wherever it stands, the atomics with their
+//! ordering bits; branches, also those against 0 or of swapped registers, j and jal x0; li, mv, nop, fence with two sets or
+//! none, fence.tso); `locations [..]` and `filter C`; and `exists`, `~exists` or `forall` with a condition of terms
+//! (with `=` or `!=`), `true`, `~`, `not`, `/\`, `\/`, `=>`, `<=>` and parentheses. Comments `(* .. *)` may be nested.
 //!
 //! Proved: a test that is read is well formed; what is refused is refused at a place of the text. Of the parts: an
-//! instruction is the one that its words spell (`specs/Instructions`), what its row is with the operands by
-//! `rv_text`, and a condition the one that its words are by the grammar (`specs/Grammar`). Only tested: what stands
-//! before the braces, that the entries of the start, the cells of a column and the labels go where they belong, what
-//! is observed, and which fault is told where.
+//! instruction is the one that its words spell (`specs/Instructions`, `specs/Fences`), what its row is with the
+//! operands by `rv_text`, and a condition the one that its words are by the grammar (`specs/Grammar`). Only tested:
+//! what stands before the braces, that the entries of the start, the cells of a column and the labels go where they
+//! belong, what is observed, and which fault is told where.
 //!
 //! Read in this order, behind `litmus_words`: `head` (what stands before the braces), `locations` (which there are),
-//! `start`, `rows` (of the table of harts), `operands`, `instruction`, `thread` (what a hart does), `condition`,
-//! `question`, `observed`; `sound` (whether a test makes sense); `test`.
+//! `start`, `rows` (of the table of harts), `operands`, `fences`, `instruction`, `thread` (what a hart does),
+//! `condition`, `question`, `observed`; `sound` (whether a test makes sense); `test`; `faults` (what else is wrong with a
+//! text).
 #![tactic(auto)]
 
 mod condition;
+mod faults;
+mod fences;
 mod head;
 mod instruction;
 mod locations;
@@ -32,5 +35,6 @@ mod start;
 mod test;
 mod thread;
 
+pub use faults::{FaultAt, MOST_FAULTS, faults_in};
 pub use litmus_words::{Fault, MOST_BYTES, Place, ReadingRefused, Shown};
 pub use test::read_litmus;

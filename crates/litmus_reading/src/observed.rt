@@ -1,4 +1,5 @@
-//! What tells final states apart: what is listed and what the terms look at, in order.
+//! What tells final states apart: what is listed, and what the terms of the filter and of the condition look at, in
+//! order.
 
 use crate::question::Question;
 use litmus_tests::Observed;
@@ -46,5 +47,7 @@ fn add_named(
 }
 
 fn is_named(question: &Question, one: Observed) -> bool {
-    question.terms.as_slice().contains(&one) || question.listed.as_slice().contains(&one)
+    question.terms.as_slice().contains(&one)
+        || question.filtered.as_slice().contains(&one)
+        || question.listed.as_slice().contains(&one)
 }

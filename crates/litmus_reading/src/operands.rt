@@ -11,6 +11,7 @@ ghost use Rattle.litmus_reading.specs.Instructions.{
   SpellsImmediate,
   SpellsMemory,
   SpellsOperands,
+  SpellsUpper,
   IsCommaBase,
   OffsetTaken,
   ShortTaken,
@@ -33,7 +34,8 @@ pub(crate) fn operands_of(row: Row, words: &[Word], end: usize) -> Result<Operan
         Row::Store(_) => store_operands(words, end),
         Row::Immediate(_) => immediate_operands(words, end),
         Row::Shift(_) => shift_operands(words, end),
-        Row::Register(_) => register_operands(words, end),
+        Row::Register(_) | Row::MulDiv(_) => register_operands(words, end),
+        Row::Lui => upper_operands(words, end),
         Row::Atomic(AtomicOp::LoadReserved, _) => reserved_operands(words, end),
         Row::Atomic(_, _) => atomic_operands(words, end),
         _ => Err(Stop::at(end, Fault::NotOfSubset)),
@@ -98,6 +100,25 @@ fn shift_operands(words: &[Word], end: usize) -> Result<Operands, Stop>
         rd,
         rs1,
         amount,
+        ..NO_OPERANDS
+    })
+}
+
+/// `x5,0x12345`, the number from 0 to 0xfffff.
+fn upper_operands(words: &[Word], end: usize) -> Result<Operands, Stop>
+    ensures { IfOk result (λ o. SpellsUpper (tokens words.now) o.rd o.upper) }
+{
+    let (rd, rest) = register(words, end)?;
+    let rest = mark(rest, Mark::Comma, end)?;
+    let (number, behind) = number(rest, end)?;
+    nothing(behind, Fault::NotOfSubset)?;
+    if number < 0 || number > 0xf_ffff {
+        return Err(Stop::at(start_of(rest, end), Fault::NumberTooLarge));
+    }
+    let upper = number as u32 * 4096;
+    Ok(Operands {
+        rd,
+        upper,
         ..NO_OPERANDS
     })
 }
@@ -199,7 +220,14 @@ fn comma_label(words: &[Word], end: usize) -> Result<Word, Stop>
     ensures { IfOk result (λ p. tokens words.now ≡ token.Mark mark_of.Comma ∷ p.token ∷ []) }
 {
     let rest = mark(words, Mark::Comma, end)?;
-    let (label, rest) = next(rest, end)?;
+    last_label(rest, end)
+}
+
+/// A label, with nothing behind.
+pub(crate) fn last_label(words: &[Word], end: usize) -> Result<Word, Stop>
+    ensures { IfOk result (λ p. tokens words.now ≡ p.token ∷ []) }
+{
+    let (label, rest) = next(words, end)?;
     if !is_label(label) {
         return Err(Stop::at(label.start, Fault::NotOfSubset));
     }

@@ -1,47 +1,117 @@
-//! What stands behind the rows: what is looked at, and the condition.
+//! What stands behind the rows: what is looked at, a filter, and the condition.
 
 use crate::condition::{Asked, Leaves, read_condition, read_observed};
 use litmus_tests::test::MOST_NESTED;
 use litmus_tests::{Condition, Observed, Quantifier};
-use litmus_words::{Fault, Mark, Stop, Token, Word, begins_with, behind_mark, mark, next, nothing};
+use litmus_words::{Fault, Mark, Stop, Token, Word, begins_with, mark, next, nothing};
 
 /// What is asked, and what it names: what stands in `locations`, and what the terms look at.
 #[derive(Drop)]
 pub(crate) struct Question {
     pub quantifier: Quantifier,
     pub condition: Condition,
+    pub filter: Condition,
     pub listed: Vec<Observed>,
+    /// What the terms of the filter look at, and those of the condition.
+    pub filtered: Vec<Observed>,
     pub terms: Vec<Observed>,
 }
 
-/// Reads all that stands behind the rows.
+/// What stands before the quantifier: `locations` and a filter, each once at the most.
+#[derive(Drop)]
+struct Before {
+    has_list: bool,
+    has_filter: bool,
+    listed: Vec<Observed>,
+    filter: Condition,
+    filtered: Vec<Observed>,
+}
+
+/// Reads all that stands behind the rows. Where `locations` stands, there may be no condition: it is `forall (true)`
+/// then.
 pub(crate) fn read_question(asked: &Asked, words: &[Word]) -> Result<Question, Stop> {
-    let mut listed = Vec::new(asked.alloc);
-    let rest = read_locations(asked, words, &mut listed)?;
-    let (quantifier, rest) = read_quantifier(rest, asked.end)?;
-    let mut leaves = Leaves {
-        count: 0,
-        observed: Vec::new(asked.alloc),
+    let mut before = Before {
+        has_list: false,
+        has_filter: false,
+        listed: Vec::new(asked.alloc),
+        filter: Condition::Always,
+        filtered: Vec::new(asked.alloc),
     };
-    let (condition, rest) = read_condition(asked, rest, MOST_NESTED as u8, &mut leaves)?;
-    nothing(rest, Fault::BehindCondition)?;
+    let rest = read_part(asked, words, &mut before)?;
+    let rest = read_part(asked, rest, &mut before)?;
+    let mut leaves = no_leaves(asked);
+    let (quantifier, condition) = if rest.is_empty() && before.has_list {
+        (Quantifier::ForAll, Condition::Always)
+    } else {
+        read_quantified(asked, rest, &mut leaves)?
+    };
     Ok(Question {
         quantifier,
         condition,
-        listed,
+        filter: before.filter,
+        listed: before.listed,
+        filtered: before.filtered,
         terms: leaves.observed,
     })
 }
 
-/// Reads `locations [0:x7; x;]`, where it stands.
+fn no_leaves(asked: &Asked) -> Leaves {
+    Leaves {
+        count: 0,
+        observed: Vec::new(asked.alloc),
+    }
+}
+
+/// Reads a quantifier and a condition, with nothing behind it.
+fn read_quantified(
+    asked: &Asked,
+    words: &[Word],
+    leaves: &mut Leaves,
+) -> Result<(Quantifier, Condition), Stop> {
+    let (quantifier, rest) = read_quantifier(words, asked.end)?;
+    let (condition, rest) = read_condition(asked, rest, MOST_NESTED as u8, leaves)?;
+    nothing(rest, Fault::BehindCondition)?;
+    Ok((quantifier, condition))
+}
+
+/// Reads `locations` or a filter, where it stands and is the first of its kind.
+fn read_part<'a>(
+    asked: &Asked,
+    words: &'a [Word],
+    before: &mut Before,
+) -> Result<&'a [Word], Stop> {
+    if begins_with(words, Mark::Locations) && !before.has_list {
+        before.has_list = true;
+        return read_locations(asked, words, &mut before.listed);
+    }
+    if begins_with(words, Mark::Filter) && !before.has_filter {
+        return read_filter(asked, words, before);
+    }
+    Ok(words)
+}
+
+/// Reads `filter` and a condition.
+fn read_filter<'a>(
+    asked: &Asked,
+    words: &'a [Word],
+    before: &mut Before,
+) -> Result<&'a [Word], Stop> {
+    let behind = mark(words, Mark::Filter, asked.end)?;
+    let mut leaves = no_leaves(asked);
+    let (filter, rest) = read_condition(asked, behind, MOST_NESTED as u8, &mut leaves)?;
+    before.has_filter = true;
+    before.filter = filter;
+    before.filtered = leaves.observed;
+    Ok(rest)
+}
+
+/// Reads `locations [0:x7; x;]`.
 fn read_locations<'a>(
     asked: &Asked,
     words: &'a [Word],
     listed: &mut Vec<Observed>,
 ) -> Result<&'a [Word], Stop> {
-    let Some(behind) = behind_mark(words, Mark::Locations) else {
-        return Ok(words);
-    };
+    let behind = mark(words, Mark::Locations, asked.end)?;
     let mut rest = mark(behind, Mark::LeftBracket, asked.end)?;
     while !begins_with(rest, Mark::RightBracket) {
         let (observed, behind) = read_observed(asked, rest)?;
@@ -70,7 +140,6 @@ fn read_quantifier(words: &[Word], end: usize) -> Result<(Quantifier, &[Word]), 
                 _ => Err(Stop::at(next.start, Fault::NotOfSubset)),
             }
         }
-        Token::Mark(Mark::Filter) => Err(Stop::at(word.start, Fault::NotOfSubset)),
         _ => Err(Stop::at(word.start, Fault::NoCondition)),
     }
 }

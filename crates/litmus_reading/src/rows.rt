@@ -53,7 +53,7 @@ pub(crate) fn rows_of(words: &[Word], harts: u8, end: usize) -> Result<(&[Word],
 }
 
 /// Whether what comes next is no row.
-fn asks(words: &[Word]) -> bool {
+pub(crate) fn asks(words: &[Word]) -> bool {
     let Some(word) = words.first() else {
         return false;
     };
@@ -67,7 +67,7 @@ fn asks(words: &[Word]) -> bool {
 }
 
 /// How many columns a row has.
-fn columns_of(row: &[Word]) -> usize {
+pub(crate) fn columns_of(row: &[Word]) -> usize {
     let mut columns = 1;
     for word in row {
         if is_mark(*word, Mark::Bar) {

@@ -50,6 +50,9 @@ pub(crate) fn makes_sense(test: &LitmusTest) -> bool
     if !are_observed(test.observed.as_slice(), harts, locations) {
         return false;
     }
+    if !is_condition(&test.filter, locations, test.observed.as_slice()) {
+        return false;
+    }
     is_condition(&test.condition, locations, test.observed.as_slice())
 }
 
@@ -153,6 +156,18 @@ fn is_condition(condition: &Condition, locations: usize, observed: &[Observed]) 
             }
             is_condition(right, locations, observed)
         }
+        Condition::Implies(left, right) => {
+            if !is_condition(left, locations, observed) {
+                return false;
+            }
+            is_condition(right, locations, observed)
+        }
+        Condition::Equivalent(left, right) => {
+            if !is_condition(left, locations, observed) {
+                return false;
+            }
+            is_condition(right, locations, observed)
+        }
     }
 }
 
@@ -199,6 +214,7 @@ fn is_step(step: LitmusStep, steps: usize) -> bool
 {
     match step {
         LitmusStep::Straight(instr) => is_straight(instr),
+        LitmusStep::Fence(_) => true,
         LitmusStep::Constant { register, .. } => register < 32,
         LitmusStep::Branch {
             left,
@@ -234,6 +250,8 @@ fn is_straight(instr: Instr) -> bool
             ..
         } => rd < 32 && rs1 < 32 && amount < 32,
         Instr::Register { rd, rs1, rs2, .. } => rd < 32 && rs1 < 32 && rs2 < 32,
+        Instr::MulDiv { rd, rs1, rs2, .. } => rd < 32 && rs1 < 32 && rs2 < 32,
+        Instr::Lui { rd, imm } => rd < 32 && imm % 4096 == 0,
         Instr::Fence => true,
         Instr::LoadReserved { rd, rs1, .. } => rd < 32 && rs1 < 32,
         Instr::StoreConditional { rd, rs1, rs2, .. } => rd < 32 && rs1 < 32 && rs2 < 32,

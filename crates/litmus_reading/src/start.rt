@@ -33,12 +33,26 @@ pub(crate) struct Start {
     pub locations: Vec<Initial>,
 }
 
-/// Reads what stands in the braces: entries, each but the last with a `;` behind it.
-pub(crate) fn read_start(words: &[Word], end: usize, alloc: Global) -> Result<Start, Stop> {
-    let mut start = Start {
+/// A start of which nothing is said.
+pub(crate) fn no_start(alloc: Global) -> Start {
+    Start {
         registers: Vec::new(alloc),
         locations: Vec::new(alloc),
-    };
+    }
+}
+
+/// Reads an entry with which the words begin, behind which a `;` stands or nothing does.
+pub(crate) fn read_whole_entry(start: &mut Start, words: &[Word], end: usize) -> Result<(), Stop> {
+    let behind = read_entry(start, words, end)?;
+    if !behind.is_empty() {
+        mark(behind, Mark::Semicolon, end)?;
+    }
+    Ok(())
+}
+
+/// Reads what stands in the braces: entries, each but the last with a `;` behind it.
+pub(crate) fn read_start(words: &[Word], end: usize, alloc: Global) -> Result<Start, Stop> {
+    let mut start = no_start(alloc);
     let mut rest = words;
     while !rest.is_empty() {
         let behind = read_entry(&mut start, rest, end)?;

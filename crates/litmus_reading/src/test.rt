@@ -39,18 +39,16 @@ fn refused_at(text: &[u8], at: usize, fault: Fault) -> ReadingRefused
     requires { at ≤ length text.now }
     ensures { IsRefusedIn text.now result }
 {
-    let shown = if fault.shows_word() {
-        shown_at(text, at)
-    } else {
-        Shown::new()
-    };
-    ReadingRefused::At(place_of(text, at), fault, shown)
+    ReadingRefused::At(place_of(text, at), fault, shown_at(text, at, fault))
 }
 
-/// As much as is shown of the word that begins at this byte.
-fn shown_at(text: &[u8], at: usize) -> Shown
+/// As much as is shown of the word that begins at this byte, where there is such a fault.
+pub(crate) fn shown_at(text: &[u8], at: usize, fault: Fault) -> Shown
     requires { at ≤ length text.now }
 {
+    if !fault.shows_word() {
+        return Shown::new();
+    }
     let end = name_end(text, at).max(at + 1).min(at + 24).min(text.len());
     match str::from_utf8(&text[at..end]) {
         Ok(word) => Shown::from(word).unwrap_or_default(),
@@ -77,7 +75,7 @@ fn read_test(text: &[u8], alloc: Global) -> Result<LitmusTest, Stop>
 }
 
 /// The words in the braces, and behind them.
-fn braces(words: &[Word], end: usize) -> Result<(&[Word], &[Word]), Stop> {
+pub(crate) fn braces(words: &[Word], end: usize) -> Result<(&[Word], &[Word]), Stop> {
     if words.is_empty() {
         return Err(Stop::at(end, Fault::Unfinished));
     }
@@ -113,6 +111,7 @@ fn read_words(
         threads: read_threads(text, rows, harts, &start, alloc)?,
         quantifier: question.quantifier,
         condition: question.condition,
+        filter: question.filter,
         observed,
     })
 }

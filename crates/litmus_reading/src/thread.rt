@@ -12,8 +12,8 @@ use std::alloc::Global;
 /// The instructions of a hart as they are written, and the labels, each with the index of the step before which it
 /// stands.
 #[derive(Drop)]
-struct Column {
-    steps: Vec<Written>,
+pub(crate) struct Column {
+    pub steps: Vec<Written>,
     labels: Vec<Word>,
     places: Vec<usize>,
 }
@@ -33,12 +33,17 @@ pub(crate) fn read_steps(
     Ok(steps)
 }
 
-fn read_column(text: &[u8], rows: &[Word], hart: u8, alloc: Global) -> Result<Column, Stop> {
-    let mut column = Column {
+/// A column without cells.
+pub(crate) fn no_column(alloc: Global) -> Column {
+    Column {
         steps: Vec::new(alloc),
         labels: Vec::new(alloc),
         places: Vec::new(alloc),
-    };
+    }
+}
+
+fn read_column(text: &[u8], rows: &[Word], hart: u8, alloc: Global) -> Result<Column, Stop> {
+    let mut column = no_column(alloc);
     let mut rest = rows;
     while !rest.is_empty() {
         let (row, behind) = cut(rest, Mark::Semicolon);
@@ -49,7 +54,7 @@ fn read_column(text: &[u8], rows: &[Word], hart: u8, alloc: Global) -> Result<Co
 }
 
 /// Reads a cell: a label, an instruction, both, or nothing.
-fn read_cell(text: &[u8], column: &mut Column, cell: &[Word]) -> Result<(), Stop> {
+pub(crate) fn read_cell(text: &[u8], column: &mut Column, cell: &[Word]) -> Result<(), Stop> {
     let instruction = read_label(text, column, cell)?;
     let Some(last) = instruction.last() else {
         return Ok(());
@@ -83,18 +88,19 @@ fn read_label<'a>(text: &[u8], column: &mut Column, cell: &'a [Word]) -> Result<
 }
 
 /// The step that an instruction is: a branch has the index of the step behind its label.
-fn step_of(text: &[u8], column: &Column, written: Written) -> Result<LitmusStep, Stop> {
+pub(crate) fn step_of(text: &[u8], column: &Column, written: Written) -> Result<LitmusStep, Stop> {
     match written {
         Written::Straight(instr) => Ok(LitmusStep::Straight(instr)),
+        Written::Fence(fence) => Ok(LitmusStep::Fence(fence)),
         Written::Constant { register, value } => Ok(LitmusStep::Constant { register, value }),
         Written::Branch {
-            comparison,
+            op,
             left,
             right,
             label,
         } => match place_of(text, column, label) {
             Some(target) => Ok(LitmusStep::Branch {
-                comparison,
+                op,
                 left,
                 right,
                 target,

@@ -3,18 +3,17 @@
 use Rattle.std.specs.Prelude.{◌≡◌, ◌⊎◌, ℕ, ◌+◌, ◌-◌, ◌^◌, ◌<◌, min, ◌==◌, ◌&&◌, not, Bool, true, false, if◌then◌else◌}
 use Rattle.std.specs.Prelude.{List, [], ◌∷◌, ◌++◌, Option, Some, None, slice_index, unwrap_or}
 use Rattle.std.specs.Option.{option_map}
-use Rattle.rv_instr.specs.declared.{instr.Instr.Instr, op.Op.Op, kind.Kind.Kind}
+use Rattle.rv_instr.specs.declared.{instr.Instr.Instr, instr.BranchOp.BranchOp, op.Op.Op, kind.Kind.Kind}
 use Rattle.rv_instr.specs.declared.op.Op.TheVariants.{Known}
 use Rattle.rv_instr.specs.declared.kind.Kind.TheVariants.{Conditional}
 use Rattle.rv_instr.specs.Kinds.{kind_of, destination, first_source, second_source, touches_memory}
 use Rattle.rv_execute.specs.Access.{reads_memory}
-use Rattle.smt_model.specs.{Exec.Computed, Exec.exec, Effects.effect_of, Kinds.access_size, Words.Effect, Words.Written}
+use Rattle.smt_model.specs.{Exec.Computed, Exec.exec, Exec.is_taken, Effects.effect_of, Kinds.access_size, Words.Effect, Words.Written}
 use Rattle.smt_model.specs.Reservations.{holds_word, reservation_after}
 use Rattle.litmus_tests.specs.{Conditions.address_of, WellFormed.is_straight}
 use Rattle.litmus_tests.specs.declared.step.LitmusStep.{LitmusStep}
-use Rattle.litmus_tests.specs.declared.step.LitmusStep.TheVariants.{Straight, Constant, Branch}
-use Rattle.litmus_tests.specs.declared.step.Comparison.{Comparison}
-use Rattle.litmus_tests.specs.declared.step.Comparison.TheVariants.{Equal, Different}
+use Rattle.rv_instr.specs.declared.instr.Instr.TheVariants as instr
+use Rattle.litmus_tests.specs.declared.step.LitmusStep.TheVariants.{Straight, Constant, Branch, Fence}
 use Rattle.litmus_runs.specs.declared.access.Access.{Access}
 use Rattle.litmus_runs.specs.declared.{hart.Hart.Hart, finding.Found.Found}
 
@@ -88,13 +87,9 @@ pub record HasExecuted (instruction : Instr) (before after : Hart) : Type 0 wher
   pub next : after.next ≡ min (before.next + 1) (2 ^ 64 - 1)
 
 -- The step behind a branch.
-abbrev pub compares : Comparison → ℕ → ℕ → Bool
-compares Equal left right = left == right
-compares Different left right = not (left == right)
-
-abbrev pub behind_branch : Comparison → ℕ → ℕ → ℕ → ℕ → ℕ
-behind_branch comparison left right target next =
-    if compares comparison left right then target else min (next + 1) (2 ^ 64 - 1)
+abbrev pub behind_branch : BranchOp → ℕ → ℕ → ℕ → ℕ → ℕ
+behind_branch op left right target next =
+    if is_taken op left right then target else min (next + 1) (2 ^ 64 - 1)
 
 -- A hart has made a step.
 abbrev pub HasTaken : LitmusStep → Hart → Hart → Type 0
@@ -104,7 +99,8 @@ HasTaken (Constant register value) before after =
     ≡ register_written register (Some value) r (slice_index before.registers r))
     × (after.accesses ≡ before.accesses) × (after.reserved ≡ before.reserved)
     × (after.next ≡ min (before.next + 1) (2 ^ 64 - 1))
-HasTaken (Branch comparison left right target) before after =
+HasTaken (Branch op left right target) before after =
     (after.registers ≡ before.registers) × (after.accesses ≡ before.accesses) × (after.reserved ≡ before.reserved)
-    × (after.next ≡ behind_branch comparison (slice_index before.registers left) (slice_index before.registers right)
+    × (after.next ≡ behind_branch op (slice_index before.registers left) (slice_index before.registers right)
     target before.next)
+HasTaken (Fence fence) before after = HasExecuted instr.Fence before after

@@ -13,9 +13,9 @@ use crate::made::{access_of, keep, reserving};
 use crate::number::word_of;
 use crate::registers::{computed_by, read_register, write_register};
 use crate::reservation::reservation_after;
-use litmus_tests::{Comparison, LitmusStep, RegisterStart};
-use rv_execute::effect_of;
-use rv_instr::{Instr, Op};
+use litmus_tests::{LitmusStep, RegisterStart};
+use rv_execute::{effect_of, is_taken};
+use rv_instr::{BranchOp, Instr, Op};
 use std::alloc::{AllocError, Global};
 
 /// A hart at a step.
@@ -58,13 +58,14 @@ impl Hart {
     {
         match step {
             LitmusStep::Straight(instr) => self.execute(instr, known, choices),
+            LitmusStep::Fence(_) => self.execute(Instr::Fence, known, choices),
             LitmusStep::Constant { register, value } => {
                 write_register(&mut self.registers, register, Some(value));
                 self.next = self.next.saturating_add(1);
                 Ok(true)
             }
             LitmusStep::Branch {
-                comparison,
+                op,
                 left,
                 right,
                 target,
@@ -73,7 +74,7 @@ impl Hart {
                     read_register(&self.registers, left),
                     read_register(&self.registers, right),
                 );
-                self.next = behind_branch(comparison, a, b, target, self.next);
+                self.next = behind_branch(op, a, b, target, self.next);
                 Ok(true)
             }
         }
@@ -113,14 +114,10 @@ impl Hart {
 }
 
 /// The step behind a branch.
-fn behind_branch(comparison: Comparison, left: u32, right: u32, target: usize, next: usize) -> usize
-    ensures { result ≡ behind_branch comparison left right target next }
+fn behind_branch(op: BranchOp, left: u32, right: u32, target: usize, next: usize) -> usize
+    ensures { result ≡ behind_branch op left right target next }
 {
-    let is_taken = match comparison {
-        Comparison::Equal => left == right,
-        Comparison::Different => left != right,
-    };
-    if is_taken {
+    if is_taken(op, left, right) {
         return target;
     }
     next.saturating_add(1)

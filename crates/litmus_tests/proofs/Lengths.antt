@@ -4,7 +4,7 @@ use Rattle.std.specs.Prelude.{sum_by}
 use Rattle.std.proofs.lemmas.List.Elements.{All-head, All-tail}
 use Rattle.std.proofs.lemmas.List.Sums.{sum_by-cons}
 use Rattle.litmus_tests.specs.declared.step.LitmusStep.{LitmusStep}
-use Rattle.litmus_tests.specs.declared.step.LitmusStep.TheVariants.{Straight, Constant, Branch}
+use Rattle.litmus_tests.specs.declared.step.LitmusStep.TheVariants.{Straight, Constant, Branch, Fence}
 use Rattle.litmus_tests.specs.declared.test.Thread.{Thread}
 use Rattle.litmus_tests.specs.WellFormed.{IsThread, step_length, thread_length}
 
@@ -17,7 +17,8 @@ steps_small (step ∷ steps) =
     one_small : (step : LitmusStep) → step_length step ≤ 2
     one_small (Straight instruction) = omega arith
     one_small (Constant register value) = omega arith
-    one_small (Branch comparison left right target) = omega arith
+    one_small (Branch op left right target) = omega arith
+    one_small (Fence fence) = omega arith
 
 pub thread_small : (locations : ℕ) (thread : Thread) → IsThread locations thread → thread_length thread ≤ 1064
 thread_small locations thread sound =

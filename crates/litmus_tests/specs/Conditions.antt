@@ -1,12 +1,12 @@
 -- What a condition says of a final state, and a test of all of them. [Alglave, Maranget and Tautschnig 2014,
 -- "Herding Cats": the quantified conditions of litmus tests]
-use Rattle.std.specs.Prelude.{ℕ, ◌+◌, ◌*◌, ◌==◌, nat_lt, Bool, true, not, ◌&&◌, ◌||◌, List, length, count_by}
+use Rattle.std.specs.Prelude.{ℕ, ◌+◌, ◌*◌, ◌==◌, nat_lt, Bool, true, not, if◌then◌else◌, ◌&&◌, ◌||◌, List, length, count_by}
 use Rattle.elf_image.specs.Image.{ram_start}
 use Rattle.litmus_tests.specs.declared.value.Value.{Value}
 use Rattle.litmus_tests.specs.declared.value.Value.TheVariants.{Number, Address}
 use Rattle.litmus_tests.specs.declared.condition.{Observed.Observed, Quantifier.Quantifier, Term.Term}
 use Rattle.litmus_tests.specs.declared.condition.Quantifier.TheVariants.{Exists, NotExists, ForAll}
-use Rattle.litmus_tests.specs.declared.condition.Condition.{Condition, Always, Holds, Not', Both', Either'}
+use Rattle.litmus_tests.specs.declared.condition.Condition.{Condition, Always, Holds, Not', Both', Either', Implies', Equivalent'}
 
 -- The locations are words, one behind the other from the start of RAM. [this project's own choice]
 abbrev pub address_of : ℕ → ℕ
@@ -28,6 +28,9 @@ holds state (Holds term) = state term.observed == number_of term.value
 holds state (Not' p condition) = not (holds state condition)
 holds state (Both' p first q second) = holds state first && holds state second
 holds state (Either' p first q second) = holds state first || holds state second
+holds state (Implies' p first q second) = not (holds state first) || holds state second
+holds state (Equivalent' p first q second) =
+    if holds state first then holds state second else not (holds state second)
 
 -- How many of these states it holds of.
 abbrev pub holding : List FinalState → Condition → ℕ

@@ -7,10 +7,10 @@ use Rattle.rv_instr.specs.declared.instr.Instr.TheVariants as instr
 use Rattle.litmus_tests.specs.declared.value.Value.{Value}
 use Rattle.litmus_tests.specs.declared.value.Value.TheVariants.{Number, Address}
 use Rattle.litmus_tests.specs.declared.step.LitmusStep.{LitmusStep}
-use Rattle.litmus_tests.specs.declared.step.LitmusStep.TheVariants.{Straight, Constant, Branch}
+use Rattle.litmus_tests.specs.declared.step.LitmusStep.TheVariants.{Straight, Constant, Branch, Fence}
 use Rattle.litmus_tests.specs.declared.condition.{Observed.Observed, Term.Term}
 use Rattle.litmus_tests.specs.declared.condition.Observed.TheVariants as observed
-use Rattle.litmus_tests.specs.declared.condition.Condition.{Condition, Always, Holds, Not', Both', Either'}
+use Rattle.litmus_tests.specs.declared.condition.Condition.{Condition, Always, Holds, Not', Both', Either', Implies', Equivalent'}
 use Rattle.litmus_tests.specs.declared.test.{LitmusTest.LitmusTest, RegisterStart.RegisterStart}
 use Rattle.litmus_tests.specs.declared.test.{Thread.Thread, Location.Location}
 
@@ -39,7 +39,8 @@ IsObserved threads locations (observed.Location index) = index < locations
 abbrev pub IsStep : ℕ → LitmusStep → Type 0
 IsStep steps (Straight instruction) = IsInstructionInRange instruction × (is_straight instruction ≡ true)
 IsStep steps (Constant register value) = register < 32
-IsStep steps (Branch comparison left right target) = (left < 32) × (right < 32) × (target ≤ steps)
+IsStep steps (Branch op left right target) = (left < 32) × (right < 32) × (target ≤ steps)
+IsStep steps (Fence fence) = Unit {0}
 
 abbrev pub IsStart : ℕ → RegisterStart → Type 0
 IsStart locations start = (0 < start.register) × (start.register < 32) × IsValue locations start.value
@@ -54,13 +55,14 @@ pub record IsThread (locations : ℕ) (thread : Thread) : Type 0 where
 abbrev pub step_length : LitmusStep → ℕ
 step_length (Straight instruction) = 1
 step_length (Constant register value) = 2
-step_length (Branch comparison left right target) = 1
+step_length (Branch op left right target) = 1
+step_length (Fence fence) = 1
 
 -- How many words of code a hart has: one before its starts, two for each of them, its steps, and one at its end.
 abbrev pub thread_length : Thread → ℕ
 thread_length thread = 2 + 2 * length thread.starts.items + sum_by step_length thread.steps.items
 
--- Each term of the condition is about something that tells final states apart.
+-- Each term of a condition is about something that tells final states apart.
 abbrev pub IsTerm : ℕ → List Observed → Term → Type 0
 IsTerm locations observed term = Contains observed term.observed × IsValue locations term.value
 
@@ -72,6 +74,10 @@ IsCondition locations observed (Both' p first q second) =
     IsCondition locations observed first × IsCondition locations observed second
 IsCondition locations observed (Either' p first q second) =
     IsCondition locations observed first × IsCondition locations observed second
+IsCondition locations observed (Implies' p first q second) =
+    IsCondition locations observed first × IsCondition locations observed second
+IsCondition locations observed (Equivalent' p first q second) =
+    IsCondition locations observed first × IsCondition locations observed second
 
 pub record IsWellFormed (test : LitmusTest) : Type 0 where
   pub harts : (1 ≤ length test.threads.items) × (length test.threads.items ≤ most_harts)
@@ -80,5 +86,6 @@ pub record IsWellFormed (test : LitmusTest) : Type 0 where
   pub threads : All (IsThread (length test.locations.items)) test.threads.items
   pub short : sum_by thread_length test.threads.items ≤ most_words
   pub condition : IsCondition (length test.locations.items) test.observed.items test.condition
+  pub filter : IsCondition (length test.locations.items) test.observed.items test.filter
   pub observed : All (IsObserved (length test.threads.items) (length test.locations.items)) test.observed.items
   pub few : length test.observed.items ≤ most_observed

@@ -30,6 +30,10 @@ pub enum Condition {
     Both(Box<Condition>, Box<Condition>),
     /// `C \/ D`.
     Either(Box<Condition>, Box<Condition>),
+    /// `C => D`.
+    Implies(Box<Condition>, Box<Condition>),
+    /// `C <=> D`.
+    Equivalent(Box<Condition>, Box<Condition>),
 }
 
 /// Of which final states the condition is asked.

@@ -1,17 +1,9 @@
 ghost use Rattle.std.specs.Prelude.{◌≡◌, ◌≤◌};
 ghost use Rattle.litmus_tests.specs.WellFormed.{step_length};
 
+use crate::fence::Fence;
 use numbers::Reg;
-use rv_instr::Instr;
-
-/// How a branch compares its two registers.
-#[derive(Clone, Copy, Debug, PartialEq, Eq, Drop)]
-pub enum Comparison {
-    /// BEQ: it is taken where they are equal.
-    Equal,
-    /// BNE: it is taken where they differ.
-    Different,
-}
+use rv_instr::{BranchOp, Instr};
 
 /// One instruction of a hart, as a litmus test writes it.
 #[derive(Clone, Copy, PartialEq, Eq, Drop)]
@@ -23,13 +15,16 @@ pub enum LitmusStep {
         register: Reg,
         value: u32,
     },
-    /// A branch to the step with the index `target` of its hart; one past the last is its end.
+    /// A branch to the step with the index `target` of its hart; one past the last is its end. It is taken where `op`
+    /// holds of the two registers, `left` first.
     Branch {
-        comparison: Comparison,
+        op: BranchOp,
         left: Reg,
         right: Reg,
         target: usize,
     },
+    /// A fence, with what it orders.
+    Fence(Fence),
 }
 
 impl LitmusStep {
@@ -39,7 +34,7 @@ impl LitmusStep {
         ensures small { result ≤ 2 }
     {
         match self {
-            LitmusStep::Straight(_) | LitmusStep::Branch { .. } => 1,
+            LitmusStep::Straight(_) | LitmusStep::Branch { .. } | LitmusStep::Fence(_) => 1,
             LitmusStep::Constant { .. } => 2,
         }
     }

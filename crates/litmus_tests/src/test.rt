@@ -88,7 +88,9 @@ pub struct LitmusTest {
     pub threads: Vec<Thread>,
     pub quantifier: Quantifier,
     pub condition: Condition,
-    /// What tells final states apart: what the condition and `locations` name, each once, first the
-    /// registers by hart and number, then the locations by index.
+    /// Which states are the test's final states: those of which it holds. `true` where the text has no filter.
+    pub filter: Condition,
+    /// What tells final states apart: what the condition, the filter and `locations` name, each once,
+    /// first the registers by hart and number, then the locations by index.
     pub observed: Vec<Observed>,
 }

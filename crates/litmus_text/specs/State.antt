@@ -54,5 +54,5 @@ unfoldable pub state_line : LitmusTest → Ending → List ℕ
 state_line test ending = each_from (part_text test ending) 0 test.observed.items
     ++ (each_from (stop_text (first_told test ending.statuses)) 0 ending.statuses ++ 10 ∷ [])
 
-abbrev pub told_line : LitmusTest → ℕ → Told → List ℕ
-told_line test index told = state_line test told.ending
+abbrev pub told_line : LitmusTest → Told → List ℕ
+told_line test told = state_line test told.ending

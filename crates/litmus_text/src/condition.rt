@@ -2,15 +2,15 @@
 
 ghost use Rattle.std.specs.Prelude.{◌≡◌, IsOk, OnOk};
 ghost use Rattle.std.specs.Io.KnownBytes.{Appends};
-ghost use Rattle.litmus_text.specs.Condition.{condition_text, term_text, opening, closing, joint, is_either, is_joined};
+ghost use Rattle.litmus_text.specs.Condition.{condition_text, term_text, opening, closing, joint, binding, binds_less};
 
 use crate::value::{write_observed, write_value};
 use litmus_tests::{Condition, LitmusTest, Term};
 use std::io;
 use std::io::Write;
 
-/// Writes a condition, with parentheses where they are needed: `/\` binds more tightly than `\/`, and `not`
-/// most of all.
+/// Writes a condition, with parentheses where they are needed: `not` binds most tightly, then `/\`, `\/`, `=>`
+/// and `<=>`.
 pub(crate) fn write_condition<W: Write>(
     condition: &Condition,
     test: &LitmusTest,
@@ -39,23 +39,43 @@ fn put_condition<W: Write>(
         Condition::Always => put("true", out, went),
         Condition::Holds(term) => put_term(test, term, out, went),
         Condition::Not(inner) => {
-            let is_wrapped = is_joined(inner);
+            let is_wrapped = binds_less(inner, 4);
             put("not ", out, went);
             put(opening(is_wrapped), out, went);
             put_condition(inner, test, out, went);
             put(closing(is_wrapped), out, went);
         }
         Condition::Both(first, second) => {
-            put(opening(is_either(first)), out, went);
+            let (left, right) = (binds_less(first, 3), binds_less(second, 3));
+            put(opening(left), out, went);
             put_condition(first, test, out, went);
-            put(joint(is_either(first), is_either(second)), out, went);
+            put_joint(left, " /\\ ", right, out, went);
             put_condition(second, test, out, went);
-            put(closing(is_either(second)), out, went);
+            put(closing(right), out, went);
         }
         Condition::Either(first, second) => {
+            let (left, right) = (binds_less(first, 2), binds_less(second, 2));
+            put(opening(left), out, went);
             put_condition(first, test, out, went);
-            put(" \\/ ", out, went);
+            put_joint(left, " \\/ ", right, out, went);
             put_condition(second, test, out, went);
+            put(closing(right), out, went);
+        }
+        Condition::Implies(first, second) => {
+            let (left, right) = (binds_less(first, 2), binds_less(second, 1));
+            put(opening(left), out, went);
+            put_condition(first, test, out, went);
+            put_joint(left, " => ", right, out, went);
+            put_condition(second, test, out, went);
+            put(closing(right), out, went);
+        }
+        Condition::Equivalent(first, second) => {
+            let (left, right) = (binds_less(first, 0), binds_less(second, 1));
+            put(opening(left), out, went);
+            put_condition(first, test, out, went);
+            put_joint(left, " <=> ", right, out, went);
+            put_condition(second, test, out, went);
+            put(closing(right), out, went);
         }
     }
 }
@@ -103,27 +123,40 @@ fn closing(is_wrapped: bool) -> &'static str
     if is_wrapped { ")" } else { "" }
 }
 
-/// What stands between two parts that both hold, with the parentheses of each.
+/// Writes what stands between two parts, with the parentheses of each, where all went well so far.
 #[tactic(auto, unfolding(crate::specs::Condition::joint))]
-fn joint(first: bool, second: bool) -> &'static str
-    ensures { result.now ≡ joint first second }
+fn put_joint<W: Write>(
+    left: bool,
+    sign: &'static str,
+    right: bool,
+    out: &mut W,
+    went: &mut io::Result<()>,
+)
+    ensures { OnOk went.new (IsOk went.old × Appends (W.contents out.old) (W.contents out.new)
+        (joint left sign.now right)) }
 {
-    match (first, second) {
-        (false, false) => " /\\ ",
-        (true, false) => ") /\\ ",
-        (false, true) => " /\\ (",
-        (true, true) => ") /\\ (",
+    put(closing(left), out, went);
+    put(sign, out, went);
+    put(opening(right), out, went);
+}
+
+/// Whether a condition binds less tightly than it has to at its place.
+#[tactic(auto, unfolding(crate::specs::Condition::binds_less))]
+fn binds_less(condition: &Condition, least: u8) -> bool
+    ensures { result ≡ binds_less condition.now least }
+{
+    binding(condition) < least
+}
+
+/// How tightly a condition binds: 4 where nothing does more.
+fn binding(condition: &Condition) -> u8
+    ensures { result ≡ binding condition.now }
+{
+    match condition {
+        Condition::Equivalent(_, _) => 0,
+        Condition::Implies(_, _) => 1,
+        Condition::Either(_, _) => 2,
+        Condition::Both(_, _) => 3,
+        Condition::Always | Condition::Holds(_) | Condition::Not(_) => 4,
     }
-}
-
-fn is_either(condition: &Condition) -> bool
-    ensures { result ≡ is_either condition.now }
-{
-    matches!(condition, Condition::Either(_, _))
-}
-
-fn is_joined(condition: &Condition) -> bool
-    ensures { result ≡ is_joined condition.now }
-{
-    matches!(condition, Condition::Both(_, _) | Condition::Either(_, _))
 }

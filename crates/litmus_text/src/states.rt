@@ -1,32 +1,33 @@
 //! The text of all final states.
 
-ghost use Rattle.std.specs.Prelude.{◌≡◌, ◌≤◌, ◌<◌, nat_lt, length, Some, slice_get, OnOk};
+ghost use Rattle.std.specs.Prelude.{◌≡◌, ◌≤◌, ◌<◌, ◌&&◌, [], if◌then◌else◌, nat_lt, flat_map, length, Some, slice_get, OnOk};
 ghost use Rattle.std.specs.Io.KnownBytes.{Appends};
 ghost use Rattle.litmus_tests.specs.WellFormed.{IsWellFormed};
-ghost use Rattle.litmus_tests.specs.Conditions.{holding};
+ghost use Rattle.litmus_tests.specs.Conditions.{holding, holds};
+ghost use Rattle.litmus_images.specs.Watching.{final_state};
 ghost use Rattle.outcomes.specs.Found.{Told};
-ghost use Rattle.text_fields.specs.Each.{each_from};
-ghost use Rattle.litmus_text.specs.State.{told_line};
-ghost use Rattle.litmus_text.specs.States.{states_text, states_in, holds_of};
+ghost use Rattle.litmus_text.specs.State.{told_line, state_line};
+ghost use Rattle.litmus_text.specs.States.{states_text, states_in, told_in, passes, is_held, line_if};
 
 use crate::state::write_state;
 use crate::summary::{is_as_asked, write_head, write_summary};
-use litmus_images::holds_in;
+use litmus_images::{holds_in, passes};
 use litmus_tests::LitmusTest;
 use outcomes::Outcomes;
 use std::io;
 use std::io::Write;
+use watched_outcomes::Outcome;
 
-/// Writes the final states of a test, which are the outcomes of its image: a line for each, whether they are
-/// as the test asks, of how many its condition holds, and the condition. Where it answers Ok, it has written
-/// exactly these lines.
+/// Writes the final states of a test, which are the outcomes of its image of which its filter holds: a line for each,
+/// whether they are as the test asks, of how many its condition holds, and the condition. Where it answers Ok, it has
+/// written exactly these lines.
 #[tactic(auto, unfolding(crate::specs::States::states_text))]
 pub fn write_states<W: Write>(test: &LitmusTest, outcomes: &Outcomes, out: &mut W) -> io::Result<()>
     requires { IsWellFormed test.now }
     ensures { OnOk result (Appends (W.contents out.old) (W.contents out.new)
         (states_text test.now outcomes.now.listed)) }
 {
-    let count = outcomes.count();
+    let count = passing_of(test, outcomes);
     let held = held_of(test, outcomes);
     let as_asked = is_as_asked(test, held, count);
     write_head(test, count, out)?;
@@ -42,11 +43,11 @@ pub fn holds_of_any(test: &LitmusTest, outcomes: &Outcomes) -> bool
     held_of(test, outcomes) > 0
 }
 
-/// Of how many outcomes the condition holds.
+/// Of how many final states the condition holds.
 fn held_of(test: &LitmusTest, outcomes: &Outcomes) -> usize
     requires { IsWellFormed test.now }
     ensures held { result ≡ holding (states_in test.now outcomes.now.listed) test.now.condition }
-    ensures few { result ≤ length outcomes.now.listed }
+    ensures few { result ≤ length (told_in test.now outcomes.now.listed) }
 {
     let mut held = 0;
     for index in 0..outcomes.count() {
@@ -55,22 +56,56 @@ fn held_of(test: &LitmusTest, outcomes: &Outcomes) -> usize
     held
 }
 
-/// Whether the condition holds of the outcome with this index.
-fn holds_at(test: &LitmusTest, outcomes: &Outcomes, index: usize) -> bool
+/// How many outcomes are final states of the test.
+fn passing_of(test: &LitmusTest, outcomes: &Outcomes) -> usize
+    requires { IsWellFormed test.now }
+    ensures { result ≡ length (told_in test.now outcomes.now.listed) }
+{
+    let mut passing = 0;
+    for index in 0..outcomes.count() {
+        passing += usize::from(passes_at(test, outcomes, index));
+    }
+    passing
+}
+
+/// Whether the outcome with this index is a final state of the test.
+fn passes_at(test: &LitmusTest, outcomes: &Outcomes, index: usize) -> bool
     requires sound { IsWellFormed test.now }
     requires within { index < length outcomes.now.listed }
     ensures { (told : Told) → slice_get outcomes.now.listed index ≡ Some told
-        → result ≡ holds_of test.now told }
+        → result ≡ passes test.now told }
 {
     match outcomes.outcome(index) {
-        Some(outcome) => holds_in(test, outcome),
+        Some(outcome) => passes(test, outcome),
         None => false,
     }
 }
 
+/// Whether the outcome with this index is a final state of the test of which the condition holds.
+fn holds_at(test: &LitmusTest, outcomes: &Outcomes, index: usize) -> bool
+    requires sound { IsWellFormed test.now }
+    requires within { index < length outcomes.now.listed }
+    ensures { (told : Told) → slice_get outcomes.now.listed index ≡ Some told
+        → result ≡ is_held test.now told }
+{
+    match outcomes.outcome(index) {
+        Some(outcome) => is_held(test, outcome),
+        None => false,
+    }
+}
+
+fn is_held(test: &LitmusTest, outcome: &Outcome) -> bool
+    requires { IsWellFormed test.now }
+    ensures { result ≡ (holds (final_state test.now outcome.now) test.now.filter
+        && holds (final_state test.now outcome.now) test.now.condition) }
+{
+    passes(test, outcome) && holds_in(test, outcome)
+}
+
 fn write_lines<W: Write>(test: &LitmusTest, outcomes: &Outcomes, out: &mut W) -> io::Result<()>
+    requires { IsWellFormed test.now }
     ensures { OnOk result (Appends (W.contents out.old) (W.contents out.new)
-        (each_from (told_line test.now) 0 outcomes.now.listed)) }
+        (flat_map (told_line test.now) (told_in test.now outcomes.now.listed))) }
 {
     for index in 0..outcomes.count() {
         write_line_at(test, outcomes, index, out)?;
@@ -78,19 +113,31 @@ fn write_lines<W: Write>(test: &LitmusTest, outcomes: &Outcomes, out: &mut W) ->
     Ok(())
 }
 
-/// Writes the line of the outcome with this index.
+/// Writes the line of the outcome with this index, if it is a final state of the test.
 fn write_line_at<W: Write>(
     test: &LitmusTest,
     outcomes: &Outcomes,
     index: usize,
     out: &mut W,
 ) -> io::Result<()>
-    requires { index < length outcomes.now.listed }
+    requires sound { IsWellFormed test.now }
+    requires within { index < length outcomes.now.listed }
     ensures { OnOk result ((told : Told) → slice_get outcomes.now.listed index ≡ Some told
-        → Appends (W.contents out.old) (W.contents out.new) (told_line test.now index told)) }
+        → Appends (W.contents out.old) (W.contents out.new) (line_if test.now told)) }
 {
     match outcomes.outcome(index) {
-        Some(outcome) => write_state(test, outcome, out),
+        Some(outcome) => write_if_passing(test, outcome, out),
         None => Ok(()),
     }
+}
+
+fn write_if_passing<W: Write>(test: &LitmusTest, outcome: &Outcome, out: &mut W) -> io::Result<()>
+    requires { IsWellFormed test.now }
+    ensures { OnOk result (Appends (W.contents out.old) (W.contents out.new)
+        (if holds (final_state test.now outcome.now) test.now.filter then state_line test.now outcome.now else [])) }
+{
+    if passes(test, outcome) {
+        return write_state(test, outcome, out);
+    }
+    Ok(())
 }

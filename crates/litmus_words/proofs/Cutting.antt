@@ -1,5 +1,5 @@
 -- Words, cut at a place.
-use Rattle.std.proofs.Common.{◌≡◌, ℕ, zero, suc, ◌+◌, ◌-◌, ◌<◌, ◌≤◌, List, [], ◌∷◌, ◌++◌, Some, length, take, drop}
+use Rattle.std.proofs.Common.{◌≡◌, ℕ, zero, suc, Option, None, ◌+◌, ◌-◌, ◌<◌, ◌≤◌, List, [], ◌∷◌, ◌++◌, Some, length, take, drop}
 use Rattle.std.proofs.Common.{refl, sym, ap, subst, inr, arith, length-drop}
 use Rattle.std.proofs.lemmas.List.{take_all}
 use Rattle.std.specs.Prelude.{slice_get}
@@ -29,3 +29,12 @@ cut_at words mark i within short is =
     ) in
     let next : suc i ≡ i + 1 = omega arith in
     subst (λ (k : ℕ). IsCut words mark (take i words) (take (length words - k) (drop k words))) next cut
+
+is_word : Option Word → Type 0
+is_word None = ⊥
+is_word (Some word) = Unit {0}
+
+pub none_past : (words : List Word) (word : Word) → slice_get words (length words) ≡ Some word → ⊥
+unfolding is_word
+none_past [] word is = subst is_word (sym is) tt
+none_past (x ∷ xs) word is = none_past xs word is

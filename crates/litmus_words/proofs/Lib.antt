@@ -1,4 +1,6 @@
 pub mod Cutting
+pub mod Digits
 pub mod Naming
 pub mod Placing
+pub mod Standing
 pub mod Taking

@@ -1,5 +1,7 @@
 pub mod Cuts
+pub mod Gaps
 pub mod Mnemonics
+pub mod Numbers
 pub mod Parts
 pub mod Places
 pub mod Tokens

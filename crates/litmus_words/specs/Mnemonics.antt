@@ -1,18 +1,12 @@
--- The names of the instructions of the subset: those of its rows, as `rv_text` has them, and what assemblers write
--- beside (the RISC-V Assembly Programmer's Manual for li, mv, nop, beqz, bnez and the fences).
-use Rattle.std.specs.Prelude.{◌≡◌, ◌⊎◌, ℕ, Bool, true, false, List, ◌∷◌, ◌++◌, codes}
-use Rattle.rv_instr.specs.declared.instr.{BranchOp.BranchOp, ImmediateOp.ImmediateOp, RegisterOp.RegisterOp}
-use Rattle.rv_instr.specs.declared.instr.BranchOp.TheVariants.{Beq, Bne}
-use Rattle.rv_instr.specs.declared.instr.LoadOp.TheVariants.{Lw}
-use Rattle.rv_instr.specs.declared.instr.StoreOp.TheVariants.{Sw}
-use Rattle.rv_instr.specs.declared.instr.ShiftOp.TheVariants.{Slli}
-use Rattle.rv_instr.specs.declared.instr.ImmediateOp.TheVariants.{Addi, Xori, Ori, Andi}
-use Rattle.rv_instr.specs.declared.instr.RegisterOp.TheVariants.{Add, Sub, Xor, Or, And}
+-- The names of the instructions of a litmus test: those of the instruction table's rows, as `rv_text` has them, and what
+-- assemblers write beside (the RISC-V Assembly Programmer's Manual for li, mv, nop, j, the branches against zero or of
+-- swapped registers, and the fences).
+use Rattle.std.specs.Prelude.{◌≡◌, ◌⊎◌, ℕ, Bool, true, false, List, ◌∷◌, ◌++◌, codes, Option, Some, None}
+use Rattle.rv_instr.specs.declared.instr.BranchOp.{BranchOp}
+use Rattle.rv_instr.specs.declared.instr.BranchOp.TheVariants.{Beq, Bne, Blt, Bge, Bltu, Bgeu}
 use Rattle.rv_text.specs.declared.mnemonic.{Mnemonic.Mnemonic as Row}
 use Rattle.rv_text.specs.declared.mnemonic.Mnemonic.TheVariants as row_of
 use Rattle.rv_text.specs.Mnemonic.{mnemonic_name, atomic_name}
-use Rattle.litmus_tests.specs.declared.step.Comparison.{Comparison}
-use Rattle.litmus_tests.specs.declared.step.Comparison.TheVariants.{Equal, Different}
 use Rattle.litmus_words.specs.declared.mnemonic.Mnemonic.{Mnemonic}
 use Rattle.litmus_words.specs.declared.mnemonic.Mnemonic.TheVariants as name
 
@@ -26,53 +20,64 @@ HasDotBetween text row = ⊥
 abbrev pub IsRowNamed : List ℕ → Row → Type 0
 IsRowNamed text row = (text ≡ mnemonic_name row) ⊎ HasDotBetween text row
 
--- The row is of the subset, and its operands are registers and numbers.
-abbrev pub is_immediate_taken : ImmediateOp → Bool
-is_immediate_taken Addi = true
-is_immediate_taken Xori = true
-is_immediate_taken Ori = true
-is_immediate_taken Andi = true
-is_immediate_taken op = false
-
-abbrev pub is_register_taken : RegisterOp → Bool
-is_register_taken Add = true
-is_register_taken Sub = true
-is_register_taken Xor = true
-is_register_taken Or = true
-is_register_taken And = true
-is_register_taken op = false
-
+-- The operands of the row are registers and numbers, and behind it the hart goes on, wherever it stands.
 abbrev pub is_taken : Row → Bool
-is_taken (row_of.Load Lw) = true
-is_taken (row_of.Store Sw) = true
-is_taken (row_of.Immediate op) = is_immediate_taken op
-is_taken (row_of.Shift Slli) = true
-is_taken (row_of.Register op) = is_register_taken op
+is_taken row_of.Lui = true
+is_taken row_of.Auipc = false
+is_taken row_of.Jal = false
+is_taken row_of.Jalr = false
+is_taken (row_of.Branch op) = false
+is_taken (row_of.Load op) = true
+is_taken (row_of.Store op) = true
+is_taken (row_of.Immediate op) = true
+is_taken (row_of.Shift op) = true
+is_taken (row_of.Register op) = true
+is_taken (row_of.MulDiv op) = true
+is_taken row_of.Fence = false
+is_taken row_of.InstructionFence = false
+is_taken row_of.Ecall = false
+is_taken row_of.Ebreak = false
 is_taken (row_of.Atomic op ordering) = true
-is_taken row = false
-
-abbrev pub branch_op : Comparison → BranchOp
-branch_op Equal = Beq
-branch_op Different = Bne
 
 -- The row is this instruction.
 abbrev pub IsOfRow : Row → Mnemonic → Type 0
 IsOfRow row (name.Row row') = (row ≡ row') × (is_taken row ≡ true)
-IsOfRow row (name.Branch comparison) = row ≡ row_of.Branch (branch_op comparison)
+IsOfRow row (name.Branch op) = row ≡ row_of.Branch op
 IsOfRow row name.Fence = row ≡ row_of.Fence
+IsOfRow row name.JumpAndLink = row ≡ row_of.Jal
 IsOfRow row mnemonic = ⊥
 
-abbrev pub branch_zero_name : Comparison → List ℕ
-branch_zero_name Equal = codes "beqz"
-branch_zero_name Different = codes "bnez"
+-- The names of branches against 0, of 0 against a register, and of two registers of which the second comes first.
+abbrev pub branch_zero_name : BranchOp → Option (List ℕ)
+branch_zero_name Beq = Some (codes "beqz")
+branch_zero_name Bne = Some (codes "bnez")
+branch_zero_name Blt = Some (codes "bltz")
+branch_zero_name Bge = Some (codes "bgez")
+branch_zero_name op = None
+
+abbrev pub zero_branch_name : BranchOp → Option (List ℕ)
+zero_branch_name Blt = Some (codes "bgtz")
+zero_branch_name Bge = Some (codes "blez")
+zero_branch_name op = None
+
+abbrev pub swapped_branch_name : BranchOp → Option (List ℕ)
+swapped_branch_name Blt = Some (codes "bgt")
+swapped_branch_name Bge = Some (codes "ble")
+swapped_branch_name Bltu = Some (codes "bgtu")
+swapped_branch_name Bgeu = Some (codes "bleu")
+swapped_branch_name op = None
 
 -- The text is the name.
 abbrev pub IsNamed : List ℕ → Mnemonic → Type 0
 IsNamed text (name.Row row) = IsRowNamed text row × (is_taken row ≡ true)
-IsNamed text (name.Branch comparison) = IsRowNamed text (row_of.Branch (branch_op comparison))
+IsNamed text (name.Branch op) = IsRowNamed text (row_of.Branch op)
 IsNamed text name.Fence = IsRowNamed text row_of.Fence
+IsNamed text name.JumpAndLink = IsRowNamed text row_of.Jal
 IsNamed text name.Constant = text ≡ codes "li"
 IsNamed text name.Move = text ≡ codes "mv"
 IsNamed text name.Nothing = text ≡ codes "nop"
-IsNamed text (name.BranchZero comparison) = text ≡ branch_zero_name comparison
+IsNamed text (name.BranchZero op) = branch_zero_name op ≡ Some text
+IsNamed text (name.ZeroBranch op) = zero_branch_name op ≡ Some text
+IsNamed text (name.SwappedBranch op) = swapped_branch_name op ≡ Some text
+IsNamed text name.Jump = text ≡ codes "j"
 IsNamed text name.TotalStoreOrderFence = text ≡ codes "fence.tso"

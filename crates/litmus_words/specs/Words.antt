@@ -2,13 +2,12 @@
 use Rattle.std.specs.Prelude.{◌≡◌, ◌⊎◌, ℕ, List, [], ◌∷◌, codes, slice_range}
 use Rattle.std.specs.Fmt.{decimal}
 use Rattle.rv_text.specs.Registers.{IsNameOf}
-use Rattle.text_fields.specs.Values.{SpellsValue}
 use Rattle.litmus_words.specs.declared.word.Word.{Word}
 use Rattle.litmus_words.specs.declared.word.Token.{Token}
 use Rattle.litmus_words.specs.declared.word.Token.TheVariants as token
 use Rattle.litmus_words.specs.declared.word.Mark.{Mark}
 use Rattle.litmus_words.specs.declared.word.Mark.TheVariants as mark
-use Rattle.litmus_words.specs.Mnemonics.{IsNamed}
+use Rattle.litmus_words.specs.{Mnemonics.IsNamed, Numbers.SpellsNumeral}
 
 -- The register of this name; x0 is also `zero`, and x8 also `fp` (the RISC-V psABI).
 abbrev pub IsRegisterNamed : List ℕ → ℕ → Type 0
@@ -33,6 +32,9 @@ IsMarkNamed text mark.RightBrace = text ≡ 125 ∷ []
 IsMarkNamed text mark.Not = (text ≡ codes "~") ⊎ (text ≡ codes "not")
 IsMarkNamed text mark.And = text ≡ 47 ∷ 92 ∷ []
 IsMarkNamed text mark.Or = text ≡ 92 ∷ 47 ∷ []
+IsMarkNamed text mark.Implies = text ≡ codes "=>"
+IsMarkNamed text mark.Equivalent = text ≡ codes "<=>"
+IsMarkNamed text mark.Differs = text ≡ codes "!="
 IsMarkNamed text mark.True = text ≡ codes "true"
 IsMarkNamed text mark.Exists = text ≡ codes "exists"
 IsMarkNamed text mark.ForAll = text ≡ codes "forall"
@@ -44,7 +46,7 @@ IsMarkNamed text mark.Type = (text ≡ codes "int") ⊎ (text ≡ codes "unsigne
 -- The bytes are the token. The names of locations are told later, and a name may be anything.
 abbrev pub SpellsToken : List ℕ → Token → Type 0
 SpellsToken text (token.Register register) = IsRegisterNamed text register
-SpellsToken text (token.Number number) = SpellsValue text number
+SpellsToken text (token.Number number) = SpellsNumeral text number
 SpellsToken text (token.Hart hart) = text ≡ 80 ∷ decimal hart
 SpellsToken text (token.Mnemonic mnemonic) = IsNamed text mnemonic
 SpellsToken text (token.Mark mark) = IsMarkNamed text mark

@@ -1,18 +1,20 @@
 //! The words of a litmus test: a text in herd's format for RISC-V is cut into them, each with its place, and parts of a
 //! test are taken off their front.
 //!
-//! Proved: each word is what its bytes spell (`specs/Words`), an instruction's name is that of a row of the instruction
-//! table or one that assemblers write beside (`specs/Mnemonics`), a part that is taken is what its words spell
-//! (`specs/Parts`), and a place is one of the text (`specs/Places`).
+//! Proved: the words of a text stand in it in their order, and between them nothing but blanks and comments
+//! (`specs/Gaps`); each word is what its bytes spell (`specs/Words`), an instruction's name is that of a row of the
+//! instruction table or one that assemblers write beside (`specs/Mnemonics`), a part that is taken is what its words
+//! spell (`specs/Parts`), and a place is one of the text (`specs/Places`).
 //!
 //! Read in this order: `place` (lines and columns), `refused` (which faults there are); `mnemonic` (the names of
-//! instructions, over those of `rv_text`), `word`, `names` (what a name is), `lexer` (a text is cut into words),
-//! `splitting` (words are, at a mark); `take` (one part at a time).
+//! instructions, over those of `rv_text`), `word`, `names` (what a name is), `numeral` (what a number is), `lexer` (a
+//! text is cut into words), `splitting` (words are, at a mark); `take` (one part at a time).
 #![tactic(auto)]
 
 mod lexer;
 mod mnemonic;
 mod names;
+mod numeral;
 mod place;
 mod refused;
 mod splitting;

@@ -1,26 +1,20 @@
 //! The names of instructions: rows of the instruction table, which `rv_text` names, and what assemblers write beside.
 
 ghost use Rattle.std.specs.Prelude.{◌≡◌, ◌++◌, ◌∷◌, IfSome};
-ghost use Rattle.litmus_words.specs.Mnemonics.{
-  IsNamed,
-  IsRowNamed,
-  IsOfRow,
-  is_taken,
-  is_immediate_taken,
-  is_register_taken,
-};
+ghost use Rattle.litmus_words.specs.Mnemonics.{IsNamed, IsRowNamed, IsOfRow, is_taken};
 
-use litmus_tests::Comparison;
-use rv_instr::{BranchOp, ImmediateOp, LoadOp, Ordering, RegisterOp, ShiftOp, StoreOp};
+use rv_instr::{BranchOp, Ordering};
 use rv_text::{Mnemonic as Row, atomic_named};
 
 /// What an instruction does, as its name says.
 #[derive(Clone, Copy, Drop)]
 pub enum Mnemonic {
-    /// A row of the subset whose operands are registers and numbers.
+    /// A row of the instruction table whose operands are registers and numbers.
     Row(Row),
     /// Of two registers, to a label.
-    Branch(Comparison),
+    Branch(BranchOp),
+    /// The same of the second register and the first: `bgt`, `ble`, `bgtu`, `bleu`.
+    SwappedBranch(BranchOp),
     /// With two sets of accesses, or none.
     Fence,
     /// `li`.
@@ -29,8 +23,14 @@ pub enum Mnemonic {
     Move,
     /// `nop`.
     Nothing,
-    /// Of one register against 0: `beqz`, `bnez`.
-    BranchZero(Comparison),
+    /// Of one register and 0: `beqz`, `bnez`, `bltz`, `bgez`.
+    BranchZero(BranchOp),
+    /// Of 0 and one register: `bgtz`, `blez`.
+    ZeroBranch(BranchOp),
+    /// `j`.
+    Jump,
+    /// `jal`, of a link register and a label.
+    JumpAndLink,
     /// `fence.tso`, which has no operands.
     TotalStoreOrderFence,
 }
@@ -40,6 +40,9 @@ pub fn mnemonic_named(name: &str) -> Option<Mnemonic>
     ensures { IfSome result (IsNamed name.now) }
 {
     if let Some(mnemonic) = pseudo_named(name) {
+        return Some(mnemonic);
+    }
+    if let Some(mnemonic) = branch_named(name) {
         return Some(mnemonic);
     }
     match row_named(name) {
@@ -56,9 +59,27 @@ fn pseudo_named(name: &str) -> Option<Mnemonic>
         "li" => Mnemonic::Constant,
         "mv" => Mnemonic::Move,
         "nop" => Mnemonic::Nothing,
-        "beqz" => Mnemonic::BranchZero(Comparison::Equal),
-        "bnez" => Mnemonic::BranchZero(Comparison::Different),
+        "j" => Mnemonic::Jump,
         "fence.tso" => Mnemonic::TotalStoreOrderFence,
+        _ => return None,
+    })
+}
+
+/// Of the branches that no row has.
+fn branch_named(name: &str) -> Option<Mnemonic>
+    ensures { IfSome result (IsNamed name.now) }
+{
+    Some(match name {
+        "beqz" => Mnemonic::BranchZero(BranchOp::Beq),
+        "bnez" => Mnemonic::BranchZero(BranchOp::Bne),
+        "bltz" => Mnemonic::BranchZero(BranchOp::Blt),
+        "bgez" => Mnemonic::BranchZero(BranchOp::Bge),
+        "bgtz" => Mnemonic::ZeroBranch(BranchOp::Blt),
+        "blez" => Mnemonic::ZeroBranch(BranchOp::Bge),
+        "bgt" => Mnemonic::SwappedBranch(BranchOp::Blt),
+        "ble" => Mnemonic::SwappedBranch(BranchOp::Bge),
+        "bgtu" => Mnemonic::SwappedBranch(BranchOp::Bltu),
+        "bleu" => Mnemonic::SwappedBranch(BranchOp::Bgeu),
         _ => return None,
     })
 }
@@ -92,9 +113,9 @@ fn of_row(row: Row) -> Option<Mnemonic>
     ensures { IfSome result (IsOfRow row) }
 {
     match row {
-        Row::Branch(BranchOp::Beq) => Some(Mnemonic::Branch(Comparison::Equal)),
-        Row::Branch(BranchOp::Bne) => Some(Mnemonic::Branch(Comparison::Different)),
+        Row::Branch(op) => Some(Mnemonic::Branch(op)),
         Row::Fence => Some(Mnemonic::Fence),
+        Row::Jal => Some(Mnemonic::JumpAndLink),
         _ => {
             if is_taken(row) {
                 return Some(Mnemonic::Row(row));
@@ -104,35 +125,26 @@ fn of_row(row: Row) -> Option<Mnemonic>
     }
 }
 
-/// Whether a row is of the subset, and its operands are registers and numbers.
+/// Whether the operands of a row are registers and numbers, and the hart goes on behind it wherever it stands.
 fn is_taken(row: Row) -> bool
     ensures { result ≡ is_taken row }
 {
     match row {
-        Row::Load(op) => matches!(op, LoadOp::Lw),
-        Row::Store(op) => matches!(op, StoreOp::Sw),
-        Row::Immediate(op) => is_immediate_taken(op),
-        Row::Shift(op) => matches!(op, ShiftOp::Slli),
-        Row::Register(op) => is_register_taken(op),
-        Row::Atomic(..) => true,
-        _ => false,
+        Row::Lui
+        | Row::Load(_)
+        | Row::Store(_)
+        | Row::Immediate(_)
+        | Row::Shift(_)
+        | Row::Register(_)
+        | Row::MulDiv(_)
+        | Row::Atomic(..) => true,
+        Row::Auipc
+        | Row::Jal
+        | Row::Jalr
+        | Row::Branch(_)
+        | Row::Fence
+        | Row::InstructionFence
+        | Row::Ecall
+        | Row::Ebreak => false,
     }
-}
-
-fn is_immediate_taken(op: ImmediateOp) -> bool
-    ensures { result ≡ is_immediate_taken op }
-{
-    matches!(
-        op,
-        ImmediateOp::Addi | ImmediateOp::Xori | ImmediateOp::Ori | ImmediateOp::Andi
-    )
-}
-
-fn is_register_taken(op: RegisterOp) -> bool
-    ensures { result ≡ is_register_taken op }
-{
-    matches!(
-        op,
-        RegisterOp::Add | RegisterOp::Sub | RegisterOp::Xor | RegisterOp::Or | RegisterOp::And
-    )
 }

@@ -1,16 +1,15 @@
 //! What a name and a number are.
 
-ghost use Rattle.std.specs.Prelude.{◌≡◌, ◌∷◌, IfOk, IfSome};
+ghost use Rattle.std.specs.Prelude.{◌≡◌, ◌∷◌, IfSome};
 ghost use Rattle.std.specs.Fmt.{decimal};
 ghost use Rattle.litmus_words.specs.Words.{IsMarkNamed, IsRegisterNamed, SpellsToken};
 
 use crate::mnemonic::mnemonic_named;
-use crate::refused::Fault;
 use crate::word::{Mark, Token};
 use numbers::Reg;
 use rv_text::register_named;
 use std::str;
-use text_fields::{read_decimal, read_value};
+use text_fields::read_decimal;
 
 /// Whether a name or a number goes on with this byte.
 pub fn is_of_name(byte: u8) -> bool {
@@ -99,6 +98,9 @@ fn sign_named(name: &str) -> Option<Mark>
         "~" => Mark::Not,
         "/\\" => Mark::And,
         "\\/" => Mark::Or,
+        "=>" => Mark::Implies,
+        "<=>" => Mark::Equivalent,
+        "!=" => Mark::Differs,
         _ => return None,
     })
 }
@@ -133,17 +135,4 @@ fn hart_named(name: &[u8]) -> Option<u32>
         Ok(hart) => Some(hart),
         Err(_) => None,
     }
-}
-
-/// What a word is that begins with a digit.
-pub fn number_token(digits: &[u8]) -> Result<Token, Fault>
-    ensures { IfOk result (SpellsToken digits.now) }
-{
-    if let Some(number) = read_value(digits) {
-        return Ok(Token::Number(number));
-    }
-    if digits.iter().all(|digit| digit.is_ascii_digit()) {
-        return Err(Fault::NumberTooLarge);
-    }
-    Err(Fault::NotOfSubset)
 }

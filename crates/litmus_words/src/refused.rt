@@ -36,6 +36,8 @@ pub enum Fault {
     NoRegister,
     /// Register x0 where its number is given or looked at: it always holds 0.
     ZeroRegister,
+    /// A register that a jump would put the address of an instruction into.
+    LinkRegister,
     /// A location that the start doesn't name.
     Undeclared,
     /// Something that has its first number already.
@@ -71,6 +73,7 @@ impl Fault {
             | Fault::NotOfSubset
             | Fault::NumberTooLarge
             | Fault::NoRegister
+            | Fault::LinkRegister
             | Fault::Undeclared
             | Fault::Twice
             | Fault::NoHart
@@ -109,6 +112,7 @@ impl Fault {
             Fault::NumberTooLarge => "a number that doesn't fit",
             Fault::NoRegister => "a register that isn't one",
             Fault::ZeroRegister => "register x0, which always holds 0",
+            Fault::LinkRegister => "a link register other than x0",
             Fault::Undeclared => "a location that is never declared",
             Fault::Twice => "a second start of the same",
             Fault::NoHart => "a hart that isn't there",

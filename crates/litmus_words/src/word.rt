@@ -1,6 +1,6 @@
 //! The words of a text.
 
-ghost use Rattle.std.specs.Prelude.{◌≡◌, true};
+ghost use Rattle.std.specs.Prelude.{◌≡◌, ◌≢◌, ◌⊎◌, [], true, false, slice_range};
 ghost use Rattle.litmus_words.specs.declared.word.Token.TheVariants as token;
 
 use crate::mnemonic::Mnemonic;
@@ -47,7 +47,12 @@ pub enum Mark {
     Exists,
     ForAll,
     Locations,
-    /// `filter`, which is refused wherever it stands.
+    /// `=>`.
+    Implies,
+    /// `<=>`.
+    Equivalent,
+    /// `!=`.
+    Differs,
     Filter,
     /// `int`, `uint32_t`, `int32_t`, `unsigned`.
     Type,
@@ -61,14 +66,20 @@ pub struct Word {
     pub token: Token,
 }
 
-/// The bytes of a word.
-pub fn bytes_of(text: &[u8], word: Word) -> &[u8] {
-    text.get(word.start..word.end).unwrap_or(&[])
+/// The bytes of a word; none where it isn't one of the text.
+pub fn bytes_of(text: &[u8], word: Word) -> &[u8]
+    ensures { (result.now ≡ []) ⊎ (result.now ≡ slice_range text.now word.start word.end) }
+{
+    match text.get(word.start..word.end) {
+        Some(bytes) => bytes,
+        None => &[],
+    }
 }
 
 /// Whether the word is this mark.
 pub fn is_mark(word: Word, mark: Mark) -> bool
-    ensures { result ≡ true → word.token ≡ token.Mark mark }
+    ensures is { result ≡ true → word.token ≡ token.Mark mark }
+    ensures other { result ≡ false → word.token ≢ token.Mark mark }
 {
     match word.token {
         Token::Mark(found) => found == mark,

@@ -16,4 +16,4 @@ pub use answers::{
     write_place,
 };
 pub use line::{write_line, write_watched};
-pub use listing::{write_incomplete, write_outcomes};
+pub use listing::{ends_text, write_incomplete, write_outcomes};

@@ -99,7 +99,8 @@ pub fn write_incomplete<W: Write>(states: u32, out: &mut W) -> io::Result<()>
     out.write_all(line.as_bytes())
 }
 
-fn ends_text(is_stuck: bool) -> &'static str
+/// The line of a whole search that says whether there is a state from which no order leads on to an end.
+pub fn ends_text(is_stuck: bool) -> &'static str
     ensures { result.now ≡ ends_text is_stuck }
 {
     match is_stuck {

@@ -215,6 +215,7 @@ fn test_of(row: &Row, alloc: Global) -> Result<LitmusTest, AllocError> {
         name: b"row".to_vec(alloc)?,
         locations,
         threads,
+        filter: Condition::Always,
         quantifier: Quantifier::NotExists,
         condition: condition_of(row, alloc)?,
         observed: Vec::new(alloc),

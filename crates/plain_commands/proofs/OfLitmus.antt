@@ -37,7 +37,7 @@ module _ (test : LitmusTest) (command : LitmusCommand) (image : ProgramImage) (w
     (old new : Option (List ℕ)) where
   pub all_told : (found : Found) → InEachSetup image harts (λ setup. IsExactList setup watch found)
       → InEachSetup image harts (λ setup. CoversCores setup watch found) → IsOnce found
-      → (answer : Result ℕ Refused) → OnOk answer (IsTold test command found.listed old new)
+      → (answer : Result ℕ Refused) → OnOk answer (IsTold test command found old new)
       → IfOk answer (λ status. status ≡ 0) → IfOk answer (TestComesTo test command old new)
   all_told found all cores once (Ok status) told zero = inl (record {
     image = image;

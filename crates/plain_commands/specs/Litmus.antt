@@ -3,10 +3,10 @@ use Rattle.std.specs.Prelude.{◌≡◌, ◌⊎◌, ℕ, nat_lt, Bool, true, fal
 use Rattle.std.specs.Prelude.{Option, codes, length}
 use Rattle.std.specs.Io.KnownBytes.{Appends}
 use Rattle.elf_image.specs.Image.{ProgramImage}
-use Rattle.outcomes.specs.{Found.Found, Found.Told}
+use Rattle.outcomes.specs.{Found.Found}
 use Rattle.watched_outcomes.specs.{declared.watch.Watch.Watch}
 use Rattle.outcomes.specs.{Found.InEachSetup, Found.IsExactList, Found.CoversCores, Found.IsOnce, Refusals.IsBeyond}
-use Rattle.outcome_text.specs.Listing.{incomplete_text}
+use Rattle.outcome_text.specs.Listing.{incomplete_text, ends_text}
 use Rattle.litmus_tests.specs.declared.test.LitmusTest.{LitmusTest}
 use Rattle.litmus_tests.specs.{WellFormed.IsWellFormed, Conditions.holding}
 use Rattle.litmus_words.specs.Places.{IsPlaceIn}
@@ -29,15 +29,18 @@ IsWhy false can_come text = text ≡ []
 IsWhy true true text = text ≡ codes "why: the condition holds of a state\n"
 IsWhy true false text = Unit {0}
 
--- The states are printed that these outcomes are, and behind them why, where that is asked.
-pub record IsTold (test : LitmusTest) (command : LitmusCommand) (listed : List Told)
+-- The states are printed that these outcomes are; behind them `stuck`, where there is an order to a state that has no way
+-- to an end, else `always can end`; and behind that why, where that is asked.
+pub record IsTold (test : LitmusTest) (command : LitmusCommand) (found : Found)
     (old new : Option (List ℕ)) : Type 0 where
   pub why : List ℕ
-  pub is_why : IsWhy command.why (nat_lt 0 (holding (states_in test listed) test.condition)) why
-  pub printed : Appends old new (states_text test listed ++ why)
+  pub is_why : IsWhy command.why (nat_lt 0 (holding (states_in test found.listed) test.condition)) why
+  pub printed : Appends old new (states_text test found.listed ++ (ends_text (is_some found.stuck) ++ why))
 
 -- All final states are printed: those in which the test's image can end, whatever order its harts take, each
--- of them an end of some order, and listed once; and every core that runs the image ends in one of them.
+-- of them an end of some order, and listed once; and every core that runs the image ends in one of them. What is said of
+-- stuck states is so (`IsExactList`): of `stuck`, that order leads to where no order leads on to an end; of `always can
+-- end`, some order leads on to one from wherever an order leads to.
 pub record PrintsAllStates (test : LitmusTest) (command : LitmusCommand) (old new : Option (List ℕ))
     (exit_status : ℕ) : Type 0 where
   pub image : ProgramImage
@@ -47,7 +50,7 @@ pub record PrintsAllStates (test : LitmusTest) (command : LitmusCommand) (old ne
   pub all : InEachSetup image (length test.threads.items) (λ setup. IsExactList setup watch found)
   pub cores : InEachSetup image (length test.threads.items) (λ setup. CoversCores setup watch found)
   pub once : IsOnce found
-  pub told : IsTold test command found.listed old new
+  pub told : IsTold test command found old new
   pub zero : exit_status ≡ 0
 
 -- More states than were to be looked at can be reached, and that is printed.

@@ -4,6 +4,8 @@ ghost use Rattle.std.specs.Prelude.{◌≡◌, ◌++◌, IfOk, IfErr, OnOk, is_s
 ghost use Rattle.std.specs.Io.KnownBytes.{Appends};
 ghost use Rattle.litmus_tests.specs.WellFormed.{IsWellFormed};
 ghost use Rattle.litmus_text.specs.States.{states_text};
+ghost use Rattle.outcome_text.specs.Listing.{ends_text};
+ghost use Rattle.searches.specs.declared.extent.Extent.TheVariants.{Whole};
 ghost use Rattle.sim_inputs.specs.Files.{written_for_test};
 ghost use Rattle.command_parts.specs.declared.refused.Refused.TheVariants.{Memory, Output};
 ghost use Rattle.plain_commands.specs.Litmus.{IsLitmusRefusal, LitmusComesTo, IsTestRefusal, TestComesTo};
@@ -19,7 +21,7 @@ use litmus_images::{harts_of, image_of, watch_of};
 use litmus_reading::{ReadingRefused, read_litmus};
 use litmus_tests::LitmusTest;
 use litmus_text::{holds_of_any, write_states};
-use outcome_text::write_incomplete;
+use outcome_text::{ends_text, write_incomplete};
 use outcomes::{Extent, Outcomes};
 use sim_inputs::LitmusCommand;
 use std::alloc::{AllocError, Global};
@@ -66,8 +68,8 @@ fn test_of(text: &[u8], alloc: Global) -> Result<LitmusTest, Refused>
     }
 }
 
-/// Writes every final state of a litmus test, whether they are as it asks, and, where that is wanted, why
-/// its condition holds of none. The states are the outcomes of the test's image, for as many harts as it
+/// Writes every final state of a litmus test, whether they are as it asks, whether its harts may wait for ever,
+/// and, where that is wanted, why its condition holds of none. The states are the outcomes of the test's image, for as many harts as it
 /// has. The image goes into `file` before the states are looked for, where it is wanted; a picture of why
 /// the condition holds of none, before anything is printed.
 ///
@@ -158,9 +160,10 @@ fn draw_and_print<S: EndFiles, W: Write>(
     alloc: Global,
 ) -> Result<u8, Refused>
     requires sound { IsWellFormed test.now }
+    requires whole { outcomes.now.extent ≡ Whole }
     requires works { S.has_failed file.old ≡ false }
     requires finished { S.is_finished file.old ≡ true }
-    ensures printed { OnOk result (IsTold test.now command.now outcomes.now.listed
+    ensures printed { OnOk result (IsTold test.now command.now outcomes.now
         (W.contents out.old) (W.contents out.new)) }
     ensures zero { IfOk result (λ status. status ≡ 0) }
     ensures refused { IfErr result (IsTestRefusal command.now) }
@@ -171,24 +174,41 @@ fn draw_and_print<S: EndFiles, W: Write>(
         → W.contents out.new ≡ W.contents out.old }
 {
     let can_come = holds_of_any(test, outcomes);
+    let is_stuck = can_be_stuck(outcomes, alloc)?;
     let why = explained(test, can_come, command, file, alloc)?;
-    print(test, outcomes, why.as_slice(), out)
+    print(test, outcomes, is_stuck, why.as_slice(), out)
 }
 
-/// Prints the states, and behind them why.
+/// Whether there is a state from which no order leads on to an end.
+fn can_be_stuck(outcomes: &Outcomes, alloc: Global) -> Result<bool, Refused>
+    requires { outcomes.now.extent ≡ Whole }
+    ensures stuck { IfOk result (λ is_stuck. is_stuck ≡ is_some outcomes.now.stuck) }
+    ensures refused { IfErr result (λ reason. reason ≡ Memory) }
+{
+    match outcomes.stuck(alloc) {
+        Ok(order) => Ok(order.is_some()),
+        Err(AllocError) => Err(Refused::Memory),
+    }
+}
+
+/// Prints the states, behind them whether one is stuck, and behind that why.
 fn print<W: Write>(
     test: &LitmusTest,
     outcomes: &Outcomes,
+    is_stuck: bool,
     why: &[u8],
     out: &mut W,
 ) -> Result<u8, Refused>
     requires { IsWellFormed test.now }
     ensures printed { OnOk result (Appends (W.contents out.old) (W.contents out.new)
-        (states_text test.now outcomes.now.listed ++ why.now)) }
+        (states_text test.now outcomes.now.listed ++ (ends_text is_stuck ++ why.now))) }
     ensures zero { IfOk result (λ status. status ≡ 0) }
     ensures refused { IfErr result (λ reason. reason ≡ Output) }
 {
     let Ok(()) = write_states(test, outcomes, out) else {
+        return Err(Refused::Output);
+    };
+    let Ok(()) = out.write_all(ends_text(is_stuck).as_bytes()) else {
         return Err(Refused::Output);
     };
     match out.write_all(why) {

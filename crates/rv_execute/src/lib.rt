@@ -19,3 +19,4 @@ pub use computed::Computed;
 pub use effect::effect_of;
 pub use execution::execute;
 pub use last::{last_effect, last_outcome};
+pub use operations::is_taken;

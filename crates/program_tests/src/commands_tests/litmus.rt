@@ -34,6 +34,16 @@ Witnesses
 Positive: 0 Negative: 3
 Condition exists (0:x7=0 /\\ 1:x7=0)
 Observation SB Never 0 3
+always can end
+";
+
+/// A hart that waits for a store which no hart makes.
+const WAITING: &[u8] = b"RISCV waits
+{ 0:x6=x; }
+ P0              ;
+ L0: lw x5,0(x6) ;
+ beqz x5,L0      ;
+exists (0:x5=1)
 ";
 
 /// Asserts that a test comes to an exit status, a text that is like this one, and a refusal.
@@ -57,8 +67,14 @@ fn store_buffering_has_three_states(rt: HostRuntime) {
 }
 
 #[test]
+fn a_test_that_waits_for_ever_is_stuck(rt: HostRuntime) {
+    let like = "Test waits Allowed\nStates 0\n*Observation waits Never 0 0\nstuck\n";
+    comes_to(&rt, WAITING, false, (0, like, ""), rt.alloc());
+}
+
+#[test]
 fn why_it_has_no_fourth_is_told(rt: HostRuntime) {
-    let like = "Test SB Allowed\n*Observation SB Never 0 3\n*each has a cycle*";
+    let like = "Test SB Allowed\n*Observation SB Never 0 3\nalways can end\n*each has a cycle*";
     comes_to(&rt, SB, true, (0, like, ""), rt.alloc());
 }
 

@@ -1,5 +1,5 @@
 use Rattle.std.proofs.Common.{arith}
-use Rattle.litmus_reading.proofs.Conditions.{at_higher, conjoined, disjoined, in_parentheses, of_negation}
+use Rattle.litmus_reading.proofs.Conditions.{at_higher, conjoined, disjoined, implied, in_parentheses, made_equivalent, of_negation}
 use Rattle.litmus_reading.proofs.condition.+condition.Goals as goal
 
 pub read_alone-returns-in-Some : goal.read_alone-returns-in-Some
@@ -18,10 +18,26 @@ read_both-loop-behind-preserved t c =
     conjoined _ _ _ _ _ _ _ c.loop-behind.invariant c.in-Some.ensures.spelled c.in_ok-right.ensures
     c.in_ok-condition-2.ensures
 
+pub read_either-loop-behind-init : goal.read_either-loop-behind-init
+read_either-loop-behind-init t c = at_higher 1 2 _ _ _ (omega arith) c.in_ok-condition.ensures
+
+pub read_either-loop-behind-preserved : goal.read_either-loop-behind-preserved
+read_either-loop-behind-preserved t c =
+    disjoined _ _ _ _ _ _ _ c.loop-behind.invariant c.in-Some.ensures.spelled c.in_ok-right.ensures
+    c.in_ok-condition-2.ensures
+
+pub read_implied-returns : goal.read_implied-returns
+read_implied-returns t c =
+    implied _ _ _ _ _ _ _ c.in_ok-left.ensures c.in-Some.ensures.spelled c.in_ok-right.ensures
+    c.in_ok-whole.ensures
+
+pub read_implied-returns-in_default : goal.read_implied-returns-in_default
+read_implied-returns-in_default t c = at_higher 2 3 _ _ _ (omega arith) c.in_ok-left.ensures
+
 pub read_condition-loop-behind-init : goal.read_condition-loop-behind-init
-read_condition-loop-behind-init t c = at_higher 1 2 _ _ _ (omega arith) c.in_ok-condition.ensures
+read_condition-loop-behind-init t c = at_higher 3 4 _ _ _ (omega arith) c.in_ok-condition.ensures
 
 pub read_condition-loop-behind-preserved : goal.read_condition-loop-behind-preserved
 read_condition-loop-behind-preserved t c =
-    disjoined _ _ _ _ _ _ _ c.loop-behind.invariant c.in-Some.ensures.spelled c.in_ok-right.ensures
+    made_equivalent _ _ _ _ _ _ _ c.loop-behind.invariant c.in-Some.ensures.spelled c.in_ok-right.ensures
     c.in_ok-condition-2.ensures

@@ -2,15 +2,21 @@ use Rattle.std.proofs.Common.{◌+◌, ◌*◌, length}
 use Rattle.litmus_reading.specs.Grammar.{ConditionTaken}
 use Rattle.litmus_reading.proofs.condition.+condition.Given as goal
 
--- each level of nesting calls all three, the one for `\/` first
+-- each level of nesting calls all five, the one for `<=>` first, and what stands behind a `=>` is shorter
 abbrev pub decreases-read_alone : goal.decreases-read_alone
-decreases-read_alone l = 3 * l.room
+decreases-read_alone l = 5 * l.room + length l.words.now
 
 abbrev pub decreases-read_both : goal.decreases-read_both
-decreases-read_both l = 3 * l.room + 1
+decreases-read_both l = 5 * l.room + 1 + length l.words.now
+
+abbrev pub decreases-read_either : goal.decreases-read_either
+decreases-read_either l = 5 * l.room + 2 + length l.words.now
+
+abbrev pub decreases-read_implied : goal.decreases-read_implied
+decreases-read_implied l = 5 * l.room + 3 + length l.words.now
 
 abbrev pub decreases-read_condition : goal.decreases-read_condition
-decreases-read_condition l = 3 * l.room + 2
+decreases-read_condition l = 5 * l.room + 4 + length l.words.now
 
 abbrev pub invariant-read_both-loop-behind : goal.invariant-read_both-loop-behind
 invariant-read_both-loop-behind l = ConditionTaken 1 l.words l.condition l.rest
@@ -18,8 +24,14 @@ invariant-read_both-loop-behind l = ConditionTaken 1 l.words l.condition l.rest
 abbrev pub decreases-read_both-loop-behind : goal.decreases-read_both-loop-behind
 decreases-read_both-loop-behind l = length l.rest
 
+abbrev pub invariant-read_either-loop-behind : goal.invariant-read_either-loop-behind
+invariant-read_either-loop-behind l = ConditionTaken 2 l.words l.condition l.rest
+
+abbrev pub decreases-read_either-loop-behind : goal.decreases-read_either-loop-behind
+decreases-read_either-loop-behind l = length l.rest
+
 abbrev pub invariant-read_condition-loop-behind : goal.invariant-read_condition-loop-behind
-invariant-read_condition-loop-behind l = ConditionTaken 2 l.words l.condition l.rest
+invariant-read_condition-loop-behind l = ConditionTaken 4 l.words l.condition l.rest
 
 abbrev pub decreases-read_condition-loop-behind : goal.decreases-read_condition-loop-behind
 decreases-read_condition-loop-behind l = length l.rest

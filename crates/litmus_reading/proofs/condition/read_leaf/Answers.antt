@@ -1,5 +1,5 @@
-use Rattle.litmus_reading.proofs.Conditions.{of_term}
+use Rattle.litmus_reading.proofs.Conditions.{of_truth}
 use Rattle.litmus_reading.proofs.condition.read_leaf.Goals as goal
 
-pub returns : goal.returns
-returns c = of_term _ _ _ _ _ c.in_ok-observed.ensures c.in_ok-rest.ensures.spelled c.in_ok-value.ensures
+pub returns-in-Some : goal.returns-in-Some
+returns-in-Some c = of_truth _ _ c.in-Some.ensures.spelled
