@@ -5,7 +5,7 @@ ghost use Rattle.litmus_words.specs.Places.{IsPlaceIn};
 
 use crate::condition::Asked;
 use crate::head::read_head;
-use crate::locations::{located, locations_in};
+use crate::locations::{count_of, located, locations_in};
 use crate::observed::observed_of;
 use crate::operands::is_label;
 use crate::question::read_question;
@@ -140,7 +140,7 @@ impl Faults {
             Err(stop) => return self.put(stop, false),
         };
         match located(text, words, names.as_slice(), alloc) {
-            Ok(words) => self.see_parts(text, words.as_slice(), names.len(), alloc),
+            Ok(words) => self.see_parts(text, words.as_slice(), count_of(names.as_slice()), alloc),
             Err(stop) => self.put(stop, false),
         }
     }

@@ -21,8 +21,10 @@
 #![tactic(auto)]
 
 mod condition;
+mod declarations;
 mod faults;
 mod fences;
+mod fitting;
 mod head;
 mod instruction;
 mod locations;

@@ -1,9 +1,12 @@
 //! What stands behind the rows: what is looked at, a filter, and the condition.
 
 use crate::condition::{Asked, Leaves, read_condition, read_observed};
+use crate::locations::elements_of;
 use litmus_tests::test::MOST_NESTED;
 use litmus_tests::{Condition, Observed, Quantifier};
-use litmus_words::{Fault, Mark, Stop, Token, Word, begins_with, mark, next, nothing};
+use litmus_words::{
+    Declared, Fault, Mark, Stop, Token, Word, begins_with, mark, next, nothing,
+};
 
 /// What is asked, and what it names: what stands in `locations`, and what the terms look at.
 #[derive(Drop)]
@@ -12,6 +15,8 @@ pub(crate) struct Question {
     pub condition: Condition,
     pub filter: Condition,
     pub listed: Vec<Observed>,
+    /// The arrays that stand in `locations` without an index, by the index of their first element.
+    pub whole: Vec<usize>,
     /// What the terms of the filter look at, and those of the condition.
     pub filtered: Vec<Observed>,
     pub terms: Vec<Observed>,
@@ -23,6 +28,7 @@ struct Before {
     has_list: bool,
     has_filter: bool,
     listed: Vec<Observed>,
+    whole: Vec<usize>,
     filter: Condition,
     filtered: Vec<Observed>,
 }
@@ -34,6 +40,7 @@ pub(crate) fn read_question(asked: &Asked, words: &[Word]) -> Result<Question, S
         has_list: false,
         has_filter: false,
         listed: Vec::new(asked.alloc),
+        whole: Vec::new(asked.alloc),
         filter: Condition::Always,
         filtered: Vec::new(asked.alloc),
     };
@@ -50,6 +57,7 @@ pub(crate) fn read_question(asked: &Asked, words: &[Word]) -> Result<Question, S
         condition,
         filter: before.filter,
         listed: before.listed,
+        whole: before.whole,
         filtered: before.filtered,
         terms: leaves.observed,
     })
@@ -82,7 +90,7 @@ fn read_part<'a>(
 ) -> Result<&'a [Word], Stop> {
     if begins_with(words, Mark::Locations) && !before.has_list {
         before.has_list = true;
-        return read_locations(asked, words, &mut before.listed);
+        return read_locations(asked, words, before);
     }
     if begins_with(words, Mark::Filter) && !before.has_filter {
         return read_filter(asked, words, before);
@@ -109,19 +117,55 @@ fn read_filter<'a>(
 fn read_locations<'a>(
     asked: &Asked,
     words: &'a [Word],
-    listed: &mut Vec<Observed>,
+    before: &mut Before,
 ) -> Result<&'a [Word], Stop> {
     let behind = mark(words, Mark::Locations, asked.end)?;
     let mut rest = mark(behind, Mark::LeftBracket, asked.end)?;
     while !begins_with(rest, Mark::RightBracket) {
-        let (observed, behind) = read_observed(asked, rest)?;
-        listed.push(observed)?;
+        let behind = read_listed(asked, rest, before)?;
         if begins_with(behind, Mark::RightBracket) {
             return mark(behind, Mark::RightBracket, asked.end);
         }
         rest = mark(behind, Mark::Semicolon, asked.end)?;
     }
     mark(rest, Mark::RightBracket, asked.end)
+}
+
+/// Reads what is listed: an array as a whole, or what a term looks at too.
+fn read_listed<'a>(
+    asked: &Asked,
+    words: &'a [Word],
+    before: &mut Before,
+) -> Result<&'a [Word], Stop> {
+    if let Some((declared, behind)) = whole_array(words) {
+        list_elements(declared, &mut before.listed)?;
+        before.whole.push(declared.first)?;
+        return Ok(behind);
+    }
+    let (observed, behind) = read_observed(asked, words)?;
+    before.listed.push(observed)?;
+    Ok(behind)
+}
+
+/// The array with whose name the words begin, without an index, and the words behind.
+fn whole_array(words: &[Word]) -> Option<(Declared, &[Word])> {
+    let (word, behind) = words.split_first()?;
+    match word.token {
+        Token::Location(declared)
+            if declared.is_array && !begins_with(behind, Mark::LeftBracket) =>
+        {
+            Some((declared, behind))
+        }
+        _ => None,
+    }
+}
+
+/// Lists each element of an array.
+fn list_elements(declared: Declared, listed: &mut Vec<Observed>) -> Result<(), Stop> {
+    for element in 0..elements_of(declared) {
+        listed.push(Observed::Location(declared.first.saturating_add(element)))?;
+    }
+    Ok(())
 }
 
 /// Reads `exists`, `~exists` or `forall`.

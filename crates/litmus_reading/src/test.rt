@@ -1,22 +1,22 @@
 //! A whole test.
 
-ghost use Rattle.std.specs.Prelude.{◌≤◌, length, IfOk, IfErr};
+ghost use Rattle.std.specs.Prelude.{◌≤◌, ◌<◌, length, IfOk, IfErr, IfSome};
 ghost use Rattle.litmus_tests.specs.WellFormed.{IsWellFormed};
 ghost use Rattle.litmus_words.specs.Places.{IsRefusedIn};
 
 use crate::condition::Asked;
 use crate::head::{Head, read_head};
-use crate::locations::{located, locations_in};
+use crate::locations::{Named, count_of, elements_of, located, locations_in, size_of};
 use crate::observed::observed_of;
-use crate::question::read_question;
+use crate::question::{Question, read_question};
 use crate::rows::{read_harts, rows_of};
 use crate::sound::makes_sense;
 use crate::start::{Start, read_start};
 use crate::thread::read_steps;
-use litmus_tests::{LitmusTest, Location, Thread};
+use litmus_tests::{Element, LitmusTest, Location, Thread, Value};
 use litmus_words::{
-    Fault, MOST_BYTES, Mark, ReadingRefused, Shown, Stop, Word, bytes_of, cut, name_end, place_of,
-    start_of, words_of,
+    Declared, Fault, MOST_BYTES, Mark, ReadingRefused, Shown, Stop, Word, bytes_of, is_mark,
+    name_end, place_of, start_of, words_of,
 };
 use std::alloc::Global;
 use std::str;
@@ -80,11 +80,28 @@ pub(crate) fn braces(words: &[Word], end: usize) -> Result<(&[Word], &[Word]), S
         return Err(Stop::at(end, Fault::Unfinished));
     }
     let words = &words[1..];
-    let (inside, behind) = cut(words, Mark::RightBrace);
-    if inside.len() == words.len() {
-        return Err(Stop::at(end, Fault::Unfinished));
+    match closing(words) {
+        Some(place) => Ok((&words[..place], &words[place + 1..])),
+        None => Err(Stop::at(end, Fault::Unfinished)),
     }
-    Ok((inside, behind))
+}
+
+/// The index of the brace that closes what was opened before the words: those of arrays stand in it.
+fn closing(words: &[Word]) -> Option<usize>
+    ensures { IfSome result (λ place. place < length words.now) }
+{
+    let mut open = 0_usize;
+    for place in 0..words.len() {
+        if is_mark(words[place], Mark::LeftBrace) {
+            open = open.saturating_add(1);
+        } else if is_mark(words[place], Mark::RightBrace) {
+            if open == 0 {
+                return Some(place);
+            }
+            open -= 1;
+        }
+    }
+    None
 }
 
 /// Reads the words of a test, in which the names of locations are known.
@@ -92,7 +109,7 @@ fn read_words(
     text: &[u8],
     head: Head,
     words: &[Word],
-    names: &[Word],
+    names: &[Named],
     alloc: Global,
 ) -> Result<LitmusTest, Stop>
     requires { (head.name_start ≤ head.name_end) × (head.name_end ≤ length text.now) }
@@ -104,10 +121,11 @@ fn read_words(
     start.names_harts(harts)?;
     let (rows, behind) = rows_of(behind, harts, end)?;
     let question = read_question(&Asked { harts, end, alloc }, behind)?;
-    let observed = observed_of(&question, harts, names.len(), start_of(behind, end), alloc)?;
+    let observed = observed_of(&question, harts, count_of(names), start_of(behind, end), alloc)?;
     Ok(LitmusTest {
         name: Vec::from_slice(alloc, &text[head.name_start..head.name_end])?,
-        locations: read_locations(text, names, &start, alloc)?,
+        words: read_memory(names, &start, alloc)?,
+        locations: read_locations(text, names, &question, alloc)?,
         threads: read_threads(text, rows, harts, &start, alloc)?,
         quantifier: question.quantifier,
         condition: question.condition,
@@ -116,21 +134,57 @@ fn read_words(
     })
 }
 
-/// The locations of a test.
+/// The words of the locations.
+fn read_memory(names: &[Named], start: &Start, alloc: Global) -> Result<Vec<Value>, Stop> {
+    let mut words = Vec::new(alloc);
+    for name in names {
+        let count = name.declared.size.saturating_add(3) / 4;
+        for word in 0..count {
+            words.push(start.word(name.declared, word))?;
+        }
+    }
+    Ok(words)
+}
+
+/// The locations of a test, each element of an array one.
 fn read_locations(
     text: &[u8],
-    names: &[Word],
-    start: &Start,
+    names: &[Named],
+    question: &Question,
     alloc: Global,
 ) -> Result<Vec<Location>, Stop> {
     let mut locations = Vec::new(alloc);
-    for (index, name) in names.iter().enumerate() {
-        locations.push(Location {
-            name: Vec::from_slice(alloc, bytes_of(text, *name))?,
-            initial: start.initial(index),
-        })?;
+    for name in names {
+        for index in 0..elements_of(name.declared) {
+            let bytes = Vec::from_slice(alloc, bytes_of(text, name.word))?;
+            locations.push(location_of(bytes, name.declared, index, question))?;
+        }
     }
     Ok(locations)
+}
+
+/// A location with this name, or an element of the array of this name.
+fn location_of(name: Vec<u8>, declared: Declared, index: usize, question: &Question) -> Location {
+    let before = index.saturating_mul(size_of(declared.number_type.width));
+    Location {
+        name,
+        element: element_of(declared, index, question),
+        byte: declared.byte.saturating_add(before),
+        begin: declared.byte,
+        number_type: declared.number_type,
+    }
+}
+
+/// The element with this index, where it is one of an array.
+fn element_of(declared: Declared, index: usize, question: &Question) -> Option<Element> {
+    if !declared.is_array {
+        return None;
+    }
+    Some(Element {
+        index,
+        count: elements_of(declared),
+        is_whole: question.whole.as_slice().contains(&declared.first),
+    })
 }
 
 /// What the harts do.

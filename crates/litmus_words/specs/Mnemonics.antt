@@ -1,5 +1,5 @@
 -- The names of the instructions of a litmus test: those of the instruction table's rows, as `rv_text` has them, and what
--- assemblers write beside (the RISC-V Assembly Programmer's Manual for li, mv, nop, j, the branches against zero or of
+-- assemblers write beside (the RISC-V Assembly Programmer's Manual for li, la, mv, nop, j, the branches against zero or of
 -- swapped registers, and the fences).
 use Rattle.std.specs.Prelude.{◌≡◌, ◌⊎◌, ℕ, Bool, true, false, List, ◌∷◌, ◌++◌, codes, Option, Some, None}
 use Rattle.rv_instr.specs.declared.instr.BranchOp.{BranchOp}
@@ -74,6 +74,7 @@ IsNamed text (name.Branch op) = IsRowNamed text (row_of.Branch op)
 IsNamed text name.Fence = IsRowNamed text row_of.Fence
 IsNamed text name.JumpAndLink = IsRowNamed text row_of.Jal
 IsNamed text name.Constant = text ≡ codes "li"
+IsNamed text name.LoadAddress = text ≡ codes "la"
 IsNamed text name.Move = text ≡ codes "mv"
 IsNamed text name.Nothing = text ≡ codes "nop"
 IsNamed text (name.BranchZero op) = branch_zero_name op ≡ Some text

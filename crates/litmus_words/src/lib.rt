@@ -27,7 +27,7 @@ pub use place::{Place, place_of};
 pub use refused::{Fault, MOST_BYTES, ReadingRefused, Shown, Stop};
 pub use splitting::cut;
 pub use take::{
-    begins_with, behind_mark, location, mark, natural, next, nothing, number, register,
-    register_but_zero, start_of, value, word_number,
+    address, begins_with, behind_mark, declared, location, mark, natural, next, nothing, number,
+    register, register_but_zero, start_of, value, word_number,
 };
-pub use word::{Mark, Token, Word, bytes_of, is_mark};
+pub use word::{Declared, Mark, Token, Word, bytes_of, is_mark};

@@ -19,6 +19,8 @@ pub enum Mnemonic {
     Fence,
     /// `li`.
     Constant,
+    /// `la`.
+    LoadAddress,
     /// `mv`.
     Move,
     /// `nop`.
@@ -57,6 +59,7 @@ fn pseudo_named(name: &str) -> Option<Mnemonic>
 {
     Some(match name {
         "li" => Mnemonic::Constant,
+        "la" => Mnemonic::LoadAddress,
         "mv" => Mnemonic::Move,
         "nop" => Mnemonic::Nothing,
         "j" => Mnemonic::Jump,

@@ -2,10 +2,11 @@
 
 ghost use Rattle.std.specs.Prelude.{◌≡◌, ◌∷◌, IfSome};
 ghost use Rattle.std.specs.Fmt.{decimal};
-ghost use Rattle.litmus_words.specs.Words.{IsMarkNamed, IsRegisterNamed, SpellsToken};
+ghost use Rattle.litmus_words.specs.Words.{IsMarkNamed, IsRegisterNamed, IsTypeNamed, SpellsToken};
 
 use crate::mnemonic::mnemonic_named;
 use crate::word::{Mark, Token};
+use litmus_tests::{NumberType, Width};
 use numbers::Reg;
 use rv_text::register_named;
 use std::str;
@@ -16,7 +17,7 @@ pub fn is_of_name(byte: u8) -> bool {
     byte.is_ascii_alphanumeric() || byte == b'_' || byte == b'.'
 }
 
-/// What a name is: a register, a hart, a mark, an instruction, or a name of which no more is known.
+/// What a name is: a register, a hart, a mark, a type, an instruction, or a name of which no more is known.
 pub fn name_token(name: &[u8]) -> Token
     ensures { SpellsToken name.now result }
 {
@@ -35,6 +36,9 @@ fn text_token(name: &str) -> Token
 {
     if let Some(mark) = mark_named(name) {
         return Token::Mark(mark);
+    }
+    if let Some(number_type) = type_named(name) {
+        return Token::Type(number_type);
     }
     if let Some(mnemonic) = mnemonic_named(name) {
         return Token::Mnemonic(mnemonic);
@@ -89,6 +93,8 @@ fn sign_named(name: &str) -> Option<Mark>
         "|" => Mark::Bar,
         "=" => Mark::Equals,
         "-" => Mark::Minus,
+        "+" => Mark::Plus,
+        "*" => Mark::Star,
         "(" => Mark::LeftParenthesis,
         ")" => Mark::RightParenthesis,
         "[" => Mark::LeftBracket,
@@ -116,7 +122,39 @@ fn keyword_named(name: &str) -> Option<Mark>
         "forall" => Mark::ForAll,
         "locations" => Mark::Locations,
         "filter" => Mark::Filter,
-        "int" | "unsigned" | "uint32_t" | "int32_t" => Mark::Type,
+        _ => return None,
+    })
+}
+
+/// The type of this name.
+fn type_named(name: &str) -> Option<NumberType>
+    ensures { IfSome result (IsTypeNamed name.now) }
+{
+    Some(match name {
+        "int8_t" => NumberType {
+            width: Width::Byte,
+            is_signed: true,
+        },
+        "uint8_t" | "char" => NumberType {
+            width: Width::Byte,
+            is_signed: false,
+        },
+        "int16_t" | "short" => NumberType {
+            width: Width::Half,
+            is_signed: true,
+        },
+        "uint16_t" => NumberType {
+            width: Width::Half,
+            is_signed: false,
+        },
+        "int" | "int32_t" => NumberType {
+            width: Width::Word,
+            is_signed: true,
+        },
+        "unsigned" | "uint32_t" => NumberType {
+            width: Width::Word,
+            is_signed: false,
+        },
         _ => return None,
     })
 }

@@ -4,6 +4,7 @@ ghost use Rattle.std.specs.Prelude.{◌≡◌, ◌≢◌, ◌⊎◌, [], true, f
 ghost use Rattle.litmus_words.specs.declared.word.Token.TheVariants as token;
 
 use crate::mnemonic::Mnemonic;
+use litmus_tests::NumberType;
 use numbers::Reg;
 
 /// What one word is.
@@ -16,10 +17,24 @@ pub enum Token {
     Hart(u32),
     Mnemonic(Mnemonic),
     Mark(Mark),
+    /// The type of a number.
+    Type(NumberType),
     /// A name of which no more is known.
     Name,
-    /// The name of a location, by its index.
-    Location(usize),
+    /// The name of a location or of an array.
+    Location(Declared),
+}
+
+/// A location or an array, as the start declares it.
+#[derive(Clone, Copy, Drop)]
+pub struct Declared {
+    /// The index of the location, or of the first element, among the test's locations.
+    pub first: usize,
+    /// Where it stands, in bytes behind the first of all locations, and how many bytes it has.
+    pub byte: usize,
+    pub size: usize,
+    pub number_type: NumberType,
+    pub is_array: bool,
 }
 
 /// The marks, and the names that are read as marks.
@@ -31,6 +46,8 @@ pub enum Mark {
     Bar,
     Equals,
     Minus,
+    Plus,
+    Star,
     LeftParenthesis,
     RightParenthesis,
     LeftBracket,
@@ -54,8 +71,6 @@ pub enum Mark {
     /// `!=`.
     Differs,
     Filter,
-    /// `int`, `uint32_t`, `int32_t`, `unsigned`.
-    Type,
 }
 
 /// A word: what it is, the byte at which it begins, and the one behind it.

@@ -20,7 +20,7 @@ use Rattle.command_parts.specs.declared.refused.Refused.TheVariants as reasons
 pub record IsSearched (test : LitmusTest) (image : ProgramImage) (watch : Watch) : Type 0 where
   pub is_image : IsLitmusImage test image
   pub registers : watch.registers.items ≡ registers_observed test.observed.items
-  pub words : watch.words.items ≡ words_observed test.observed.items
+  pub words : watch.words.items ≡ words_observed test.locations.items test.observed.items
 
 -- What is said of why the condition holds of no state: nothing where that isn't asked, and that it holds of
 -- one where it does.
