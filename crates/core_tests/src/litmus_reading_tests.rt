@@ -4,7 +4,7 @@
 use litmus_reading::{MOST_BYTES, ReadingRefused, read_litmus};
 use litmus_tests::{
     AccessSet, Condition, Fence, LitmusStep, LitmusTest, Observed, Quantifier, RegisterStart, Term,
-    Value,
+    Value, Width,
 };
 use rv_instr::{BranchOp, ImmediateOp, Instr, LoadOp, Ordering, RegisterOp, StoreOp};
 use rv_word::AmoKind;
@@ -111,13 +111,15 @@ fn starts(test: &LitmusTest, hart: usize, starts: &[RegisterStart]) -> bool {
     }
 }
 
-/// Whether the location with this index is this one.
+/// Whether the location with this index is this one, and its word begins so.
 fn is_location(test: &LitmusTest, index: usize, name: &str, initial: Value) -> bool {
-    match test.locations.get(index) {
-        Some(location) => {
-            location.name.as_slice() == name.as_bytes() && location.initial == initial
+    match (test.locations.get(index), test.words.get(index)) {
+        (Some(location), Some(word)) => {
+            location.name.as_slice() == name.as_bytes()
+                && location.byte == 4 * index
+                && *word == initial
         }
-        None => false,
+        _ => false,
     }
 }
 
@@ -154,7 +156,7 @@ fn reads_store_buffering(rt: HostRuntime) {
     assert!(rt; is_location(&test, 0, "x", Value::Number(0)));
     assert!(rt; is_location(&test, 1, "y", Value::Number(0)));
     let start = |register, value| RegisterStart { register, value };
-    let (one, x, y) = (Value::Number(1), Value::Address(0), Value::Address(1));
+    let (one, x, y) = (Value::Number(1), Value::Address(0), Value::Address(4));
     assert!(rt; starts(&test, 0, &[start(5, one), start(6, x), start(8, y)]));
     assert!(rt; starts(&test, 1, &[start(5, one), start(6, y), start(8, x)]));
     assert!(rt; test.threads.len() == 2);
@@ -261,9 +263,13 @@ fn reads_load_buffering_with_addresses(rt: HostRuntime) {
 }
 
 fn holds(observed: Observed, value: u32, condition: &Condition) -> bool {
-    let value = Value::Number(value);
+    let term = Term {
+        observed,
+        value: Value::Number(value),
+        width: Width::Word,
+    };
     match condition {
-        Condition::Holds(term) => *term == Term { observed, value },
+        Condition::Holds(found) => *found == term,
         _ => false,
     }
 }

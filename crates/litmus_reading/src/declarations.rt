@@ -50,7 +50,11 @@ fn declared_by(text: &[u8], entry: &[Word], name: Word) -> Option<Declaration> {
     }
     Some(Declaration {
         number_type: number_type.unwrap_or(INT),
-        elements: if is_bracketed { None } else { elements_of(entry) },
+        elements: if is_bracketed {
+            None
+        } else {
+            elements_of(entry)
+        },
     })
 }
 

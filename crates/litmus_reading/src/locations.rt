@@ -34,11 +34,7 @@ pub(crate) fn locations_in(text: &[u8], words: &[Word], alloc: Global) -> Result
 }
 
 /// What is declared so behind these names. More words than there may be are refused at this byte.
-fn declared_behind(
-    names: &[Named],
-    declaration: Declaration,
-    at: usize,
-) -> Result<Declared, Stop> {
+fn declared_behind(names: &[Named], declaration: Declaration, at: usize) -> Result<Declared, Stop> {
     let byte = end_of(names);
     let width = declaration.number_type.width;
     let room = (4 * MOST_LOCATIONS).saturating_sub(byte);
@@ -84,7 +80,10 @@ pub(crate) fn end_of(names: &[Named]) -> usize {
 /// How many locations these names are, each element of an array one.
 pub(crate) fn count_of(names: &[Named]) -> usize {
     match names.last() {
-        Some(last) => last.declared.first.saturating_add(elements_of(last.declared)),
+        Some(last) => last
+            .declared
+            .first
+            .saturating_add(elements_of(last.declared)),
         None => 0,
     }
 }

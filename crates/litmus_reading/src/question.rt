@@ -1,12 +1,12 @@
 //! What stands behind the rows: what is looked at, a filter, and the condition.
 
+ghost use Rattle.std.specs.Prelude.{◌≤◌, length, IfOk, IfSome};
+
 use crate::condition::{Asked, Leaves, read_condition, read_observed};
 use crate::locations::elements_of;
 use litmus_tests::test::MOST_NESTED;
 use litmus_tests::{Condition, Observed, Quantifier};
-use litmus_words::{
-    Declared, Fault, Mark, Stop, Token, Word, begins_with, mark, next, nothing,
-};
+use litmus_words::{Declared, Fault, Mark, Stop, Token, Word, begins_with, mark, next, nothing};
 
 /// What is asked, and what it names: what stands in `locations`, and what the terms look at.
 #[derive(Drop)]
@@ -136,7 +136,9 @@ fn read_listed<'a>(
     asked: &Asked,
     words: &'a [Word],
     before: &mut Before,
-) -> Result<&'a [Word], Stop> {
+) -> Result<&'a [Word], Stop>
+    ensures { IfOk result (λ rest. length rest.now ≤ length words.now) }
+{
     if let Some((declared, behind)) = whole_array(words) {
         list_elements(declared, &mut before.listed)?;
         before.whole.push(declared.first)?;
@@ -148,16 +150,19 @@ fn read_listed<'a>(
 }
 
 /// The array with whose name the words begin, without an index, and the words behind.
-fn whole_array(words: &[Word]) -> Option<(Declared, &[Word])> {
-    let (word, behind) = words.split_first()?;
-    match word.token {
-        Token::Location(declared)
-            if declared.is_array && !begins_with(behind, Mark::LeftBracket) =>
-        {
-            Some((declared, behind))
-        }
-        _ => None,
+fn whole_array(words: &[Word]) -> Option<(Declared, &[Word])>
+    ensures { IfSome result (λ p. length p.1.now ≤ length words.now) }
+{
+    let Some((word, behind)) = words.split_first() else {
+        return None;
+    };
+    let Token::Location(declared) = word.token else {
+        return None;
+    };
+    if !declared.is_array || begins_with(behind, Mark::LeftBracket) {
+        return None;
     }
+    Some((declared, behind))
 }
 
 /// Lists each element of an array.

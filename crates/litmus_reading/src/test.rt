@@ -121,7 +121,13 @@ fn read_words(
     start.names_harts(harts)?;
     let (rows, behind) = rows_of(behind, harts, end)?;
     let question = read_question(&Asked { harts, end, alloc }, behind)?;
-    let observed = observed_of(&question, harts, count_of(names), start_of(behind, end), alloc)?;
+    let observed = observed_of(
+        &question,
+        harts,
+        count_of(names),
+        start_of(behind, end),
+        alloc,
+    )?;
     Ok(LitmusTest {
         name: Vec::from_slice(alloc, &text[head.name_start..head.name_end])?,
         words: read_memory(names, &start, alloc)?,
