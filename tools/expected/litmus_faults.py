@@ -31,6 +31,14 @@ INSTEAD = {
     "int64_t uint64_t long": "int: numbers have 32 bits",
     "float double": "int: there is no floating point",
 }
+# What is told of a fault, whatever its word is.
+TOLD = {
+    "a link register other than x0": "j and the label: a test has no addresses of code",
+    "an element that isn't there": "an index or an offset inside: both count from 0",
+    "an array where a number is wanted": "one of its elements, as x[0]",
+    "an address in a byte or a half": "a number, or a location of 32 bits: an address has as many",
+    "a pointer to numbers of another size": "the type that the location has, before the *",
+}
 KINDS = {
     r".*\.rl\.aq": "the same with .aq.rl",
     r"(lr\.|sc\.|amo).*\.d.*|(lr|sc)\.d.*": "the same with .w: words have 32 bits",
@@ -172,7 +180,7 @@ def parts(text):
         line, column = place(text, at)
         word = "" if WORDLESS.match(what) else word_at(text, at)
         said = f"{word} is not known here" if is_instruction and word else f"{what}: {word}" if word else what
-        other = in_place_of(word)
+        other = TOLD.get(what) or in_place_of(word)
         if number == 0:
             yield "cause", f"column {column}: {said}"
             if other:

@@ -4,8 +4,7 @@ use Rattle.std.proofs.lemmas.List.Elements.{All-weaker}
 use Rattle.litmus_tests.specs.declared.value.Value.{Value}
 use Rattle.litmus_tests.specs.declared.value.Value.TheVariants.{Number, Address}
 use Rattle.litmus_tests.specs.declared.test.{LitmusTest.LitmusTest, RegisterStart.RegisterStart, Thread.Thread}
-use Rattle.litmus_tests.specs.declared.location.Location.{Location}
-use Rattle.litmus_tests.specs.WellFormed.{IsValue, IsStart, IsThread, IsLocation, IsWellFormed}
+use Rattle.litmus_tests.specs.WellFormed.{IsValue, IsStart, IsThread, IsWellFormed}
 
 pub value_sound : (words : ℕ) → words ≤ 64 → (value : Value) → IsValue words value → IsValue 64 value
 value_sound words few (Number number) sound = tt
@@ -32,12 +31,3 @@ pub initials_sound : (test : LitmusTest) → IsWellFormed test → All (IsValue 
 initials_sound test sound =
     let words = length test.words.items in
     All-weaker (IsValue words) (IsValue 64) (value_sound words sound.words) test.words.items sound.initials
-
-location_sound : (words : ℕ) → words ≤ 64 → (location : Location) → IsLocation words location → IsLocation 64 location
-location_sound words few location sound = omega arith
-
-pub locations_sound : (test : LitmusTest) → IsWellFormed test → All (IsLocation 64) test.locations.items
-locations_sound test sound =
-    let words = length test.words.items in
-    All-weaker (IsLocation words) (IsLocation 64) (location_sound words sound.words) test.locations.items
-    sound.locations

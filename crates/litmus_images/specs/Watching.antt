@@ -1,5 +1,5 @@
 -- What tells the final states of a litmus test apart, and what an end of its image is as a final state.
-use Rattle.std.specs.Prelude.{ℕ, ◌+◌, ◌==◌, ◌&&◌, List, map, position, slice_get, Option, Some, None, unwrap_or}
+use Rattle.std.specs.Prelude.{ℕ, ◌+◌, ◌%◌, ◌^◌, ◌==◌, ◌&&◌, List, map, position, slice_get, Option, Some, None, unwrap_or}
 use Rattle.std.specs.{Prelude.option_and_then, List.filter_map}
 use Rattle.watched_outcomes.specs.{Endings.Ending, declared.watch.WatchedRegister.WatchedRegister}
 use Rattle.watched_outcomes.specs.declared.watch.{WatchedBytes.WatchedBytes, Width.TheVariants.Word}
@@ -25,9 +25,13 @@ registers_observed observed = filter_map register_of observed
 abbrev pub locations_observed : List Observed → List ℕ
 locations_observed observed = filter_map location_of observed
 
--- The bytes of these locations, each as wide as its type says. (What isn't there counts as the first word.)
+-- The bytes of these locations, each as wide as its type says. (Where a location is there, its address is a word; what
+-- isn't there counts as the first word.)
 abbrev pub bytes_watched : Location → WatchedBytes
-bytes_watched location = record { address = ram_start + location.byte; width = location.number_type.width }
+bytes_watched location = record {
+  address = (ram_start + location.byte) % 2 ^ 32;
+  width = location.number_type.width;
+}
 
 abbrev pub cell_in : Option Location → WatchedBytes
 cell_in None = record { address = ram_start; width = Word }

@@ -13,7 +13,7 @@ use rv_instr::{ImmediateOp, Instr, Reg};
 use std::alloc::AllocError;
 
 /// The address of a byte of the locations.
-pub(crate) fn address_at(byte: usize) -> u32
+fn address_at(byte: usize) -> u32
     requires { byte < 4 * most_locations }
     ensures { result ≡ ram_start + byte }
 {

@@ -1,13 +1,11 @@
 //! What is watched in the ends of a litmus test.
 
-ghost use Rattle.std.specs.Prelude.{◌≡◌, ◌≤◌, ◌<◌, length, All, IfSome};
+ghost use Rattle.std.specs.Prelude.{◌≡◌, ◌≤◌, length};
 ghost use Rattle.litmus_tests.specs.WellFormed.{IsWellFormed};
-ghost use Rattle.litmus_tests.specs.Limits.{most_locations, most_observed};
-ghost use Rattle.litmus_tests.specs.WellFormed.{IsLocation};
+ghost use Rattle.litmus_tests.specs.Limits.{most_observed};
 ghost use Rattle.litmus_images.specs.Watching.{register_of, location_of, registers_observed};
 ghost use Rattle.litmus_images.specs.Watching.{bytes_watched, cell_of, words_observed};
 
-use crate::constants::address_at;
 use arrayvec::ArrayVec;
 use elf_image::RAM_START;
 use litmus_tests::{LitmusTest, Location, Observed};
@@ -72,8 +70,7 @@ fn words_watched(
     locations: &[Location],
     observed: &[Observed],
 ) -> ArrayVec<WatchedBytes, MOST_WATCHED>
-    requires few { length observed.now ≤ most_observed }
-    requires there { All (IsLocation most_locations) locations.now }
+    requires { length observed.now ≤ most_observed }
     ensures { result.items ≡ words_observed locations.now observed.now }
 {
     let mut words = ArrayVec::<WatchedBytes, MOST_WATCHED>::new();
@@ -88,7 +85,6 @@ fn words_watched(
 
 /// The bytes of the location with this index.
 fn cell_of(locations: &[Location], index: usize) -> WatchedBytes
-    requires { All (IsLocation most_locations) locations.now }
     ensures { result ≡ cell_of locations.now index }
 {
     match locations.get(index) {
@@ -102,11 +98,11 @@ fn cell_of(locations: &[Location], index: usize) -> WatchedBytes
 
 /// The bytes of a location.
 fn bytes_watched(location: &Location) -> WatchedBytes
-    requires { IsLocation most_locations location.now }
     ensures { result ≡ bytes_watched location.now }
 {
+    let address = RAM_START as u128 + location.byte as u128;
     WatchedBytes {
-        address: address_at(location.byte),
+        address: (address % 0x1_0000_0000) as u32,
         width: location.number_type.width,
     }
 }

@@ -175,15 +175,15 @@ fn read_term<'a>(
     let width = width_at(words);
     if let Some(behind) = behind_mark(rest, Mark::Differs) {
         check_width(behind, width, asked.end)?;
-        let (value, rest) = value(behind, asked.end)?;
+        let (other, rest) = value(behind, asked.end)?;
         count_leaf(asked, words, leaves)?;
         leaves.observed.push(observed)?;
-        let other = Term {
+        let term = Term {
             observed,
-            value,
+            value: other,
             width,
         };
-        let whole = differing(other, asked.alloc)?;
+        let whole = differing(term, asked.alloc)?;
         return Ok((whole, rest));
     }
     let rest = mark(rest, Mark::Equals, asked.end)?;

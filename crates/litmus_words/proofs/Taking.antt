@@ -54,7 +54,7 @@ of_element words first rest declared element offset byte name index inside is so
   text = Location declared ∷ index_tokens element;
   spells = record {
     declared = declared;
-    spelled = inr (inr (element, refl, inside, so ∙ ap (λ n. declared.byte + n) is));
+    spelled = inr (inr (element, refl, inside, so ∙ ap (λ (n : ℕ). declared.byte + n) is));
   };
   takes = one_behind_another words first rest (Location declared ∷ []) (index_tokens element) name index;
 }

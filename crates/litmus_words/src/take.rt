@@ -5,11 +5,12 @@ ghost use Rattle.std.specs.Prelude.{◌≡◌, ◌+◌, ◌*◌, ◌<◌, ◌≤
 ghost use Rattle.litmus_words.specs.Tokens.{Takes};
 ghost use Rattle.litmus_words.specs.Parts.{IntegerTaken, NumberTaken, ValueTaken, LocationTaken, IsWordOf};
 ghost use Rattle.litmus_words.specs.Parts.{AddressTaken, ElementTaken, element_size};
+ghost use Rattle.watched_outcomes.specs.Watching.{bytes_of};
 ghost use Rattle.litmus_words.specs.declared.word.Token.TheVariants as token;
 
 use crate::refused::{Fault, Stop};
 use crate::word::{Declared, Mark, Token, Word, is_mark};
-use litmus_tests::Value;
+use litmus_tests::{Value, Width};
 use numbers::Reg;
 
 /// The next word.
@@ -186,7 +187,7 @@ pub fn address(words: &[Word], end: usize) -> Result<(usize, &[Word]), Stop>
     }
     if begins_with(rest, Mark::LeftBracket) {
         let (element, after) = element(declared, rest, end)?;
-        let offset = element_size(declared) * element;
+        let offset = bytes_before(declared.number_type.width, element);
         let byte = byte_at(declared, offset, start_of(rest, end))?;
         return Ok((byte, after));
     }
@@ -204,12 +205,16 @@ fn byte_at(declared: Declared, offset: usize, at: usize) -> Result<usize, Stop>
     Ok(declared.byte + offset)
 }
 
-/// How many bytes an element has.
-fn element_size(declared: Declared) -> usize
-    ensures value { result ≡ element_size declared }
-    ensures small { result ≤ 4 }
+/// How many bytes so many numbers of this width have.
+fn bytes_before(width: Width, count: usize) -> usize
+    requires { count < 4294967296 }
+    ensures { result ≡ bytes_of width * count }
 {
-    usize::from(declared.number_type.width.bytes())
+    match width {
+        Width::Byte => count,
+        Width::Half => 2 * count,
+        Width::Word => 4 * count,
+    }
 }
 
 /// An index of an array in brackets, of an element that is there.
@@ -224,7 +229,7 @@ fn element(declared: Declared, words: &[Word], end: usize) -> Result<(usize, &[W
     }
     let (element, behind) = natural(rest, end)?;
     let element = element as usize;
-    if element_size(declared) * element >= declared.size {
+    if bytes_before(declared.number_type.width, element) >= declared.size {
         return Err(Stop::at(start_of(rest, end), Fault::NoElement));
     }
     let after = mark(behind, Mark::RightBracket, end)?;

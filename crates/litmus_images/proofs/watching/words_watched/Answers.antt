@@ -8,7 +8,7 @@ use Rattle.litmus_images.proofs.watching.words_watched.Goals.{in-Some, in-None}
 
 pub push-requires : goal.push-requires
 push-requires c =
-    let small = room location_of c.args.observed.now c.loop-each.each-index c.requires.few c.loop-each-test.true in
+    let small = room location_of c.args.observed.now c.loop-each.each-index c.requires c.loop-each-test.true in
     let same = ap length c.loop-each.invariant
     ∙ length-map (filter_map location_of (take c.loop-each.each-index c.args.observed.now))
     (cell_of c.args.locations.now) in

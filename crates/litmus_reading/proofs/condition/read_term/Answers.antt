@@ -6,5 +6,5 @@ returns c = of_term _ _ _ _ _ c.in_ok-observed.ensures c.in_ok-rest.ensures.spel
 
 pub returns-in-Some : goal.returns-in-Some
 returns-in-Some c =
-    of_other _ _ _ _ _ _ c.in_ok-observed.ensures c.in-Some.ensures.spelled c.in_ok-value-in-Some.ensures
+    of_other _ _ _ _ _ _ c.in_ok-observed.ensures c.in-Some.ensures.spelled c.in_ok-other.ensures
     c.in_ok-whole.ensures
