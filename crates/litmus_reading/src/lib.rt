@@ -2,11 +2,12 @@
 //! becomes a test of `litmus_tests`, or is refused at the place at which its first fault begins.
 //!
 //! The subset: `RISCV NAME`; a string and lines `Key=..`, which are skipped; the start in braces (`0:x5=1; 0:x6=x;
-//! int8_t y=2; [z]=1; int a[2]={1,2}; int *p=x`), whose names are the locations and the arrays; the harts (`P0 | P1 ;`); rows of cells with a label and an
-//! instruction or less (every one of RV32IMA behind which a hart goes on wherever it stands, the atomics with their
-//! ordering bits; branches, also those against 0 or of swapped registers, j and jal x0; li, la, mv, nop, fence with two
-//! sets or none, fence.tso); `locations [..]` and `filter C`; and `exists`, `~exists` or `forall` with a condition of terms
-//! (with `=` or `!=`), `true`, `~`, `not`, `/\`, `\/`, `=>`, `<=>` and parentheses. Comments `(* .. *)` may be nested.
+//! int8_t y=2; [z]=1; int a[2]={1,2}; int *p=x`), whose names are the locations and the arrays; the harts (`P0 | P1
+//! ;`); rows of cells with a label and an instruction or less (every one of RV32IMA behind which a hart goes on
+//! wherever it stands, the atomics with their ordering bits; branches, also those against 0 or of swapped registers, j
+//! and jal x0; li, la, mv, nop, fence with two sets or none, fence.tso); `locations [..]` and `filter C`; and `exists`,
+//! `~exists` or `forall` with a condition of terms (with `=` or `!=`), `true`, `~`, `not`, `/\`, `\/`, `=>`, `<=>` and
+//! parentheses. Comments `(* .. *)` may be nested.
 //!
 //! Proved: a test that is read is well formed; what is refused is refused at a place of the text. Of the parts: an
 //! instruction is the one that its words spell (`specs/Instructions`, `specs/Fences`), what its row is with the
@@ -15,9 +16,9 @@
 //! belong, what the start declares, and where that stands, what is observed, and which fault is told where.
 //!
 //! Read in this order, behind `litmus_words`: `head` (what stands before the braces), `declarations` (of which types
-//! locations are), `locations` (which there are, and where), `fitting` (what fits in a type), `start`, `rows` (of the table of harts), `operands`, `fences`, `instruction`, `thread` (what a hart does),
-//! `condition`, `question`, `observed`; `sound` (whether a test makes sense); `test`; `faults` (what else is wrong with a
-//! text).
+//! locations are), `locations` (which there are, and where), `fitting` (what fits in a type), `start`, `rows` (of the
+//! table of harts), `operands`, `fences`, `instruction`, `thread` (what a hart does), `condition`, `question`,
+//! `observed`; `sound` (whether a test makes sense); `test`; `faults` (what else is wrong with a text).
 #![tactic(auto)]
 
 mod condition;
