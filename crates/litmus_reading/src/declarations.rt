@@ -1,7 +1,9 @@
 //! What the entries of the braces declare: of each location its type, and of an array how many elements it has.
 
+ghost use Rattle.std.specs.Prelude.{◌≤◌, length};
+
 use litmus_tests::{INT, NumberType};
-use litmus_words::{Mark, Token, Word, bytes_of, cut};
+use litmus_words::{Mark, Token, Word, behind_mark, bytes_of, cut};
 
 /// What an entry declares of a name.
 #[derive(Clone, Copy, Drop)]
@@ -32,60 +34,66 @@ pub(crate) fn declaration_of(text: &[u8], words: &[Word], name: Word) -> Declara
 
 /// What an entry declares, if it is of this name.
 fn declared_by(text: &[u8], entry: &[Word], name: Word) -> Option<Declaration> {
-    let number_type = type_of(entry.first());
-    let entry = match number_type {
-        Some(_) => entry.get(1..)?,
-        None => entry,
-    };
-    let is_pointer = has_mark(entry.first(), Mark::Star);
-    let entry = if is_pointer { entry.get(1..)? } else { entry };
-    let is_bracketed = has_mark(entry.first(), Mark::LeftBracket);
-    let entry = if is_bracketed { entry.get(1..)? } else { entry };
-    let word = *entry.first()?;
-    if !is_name(word) || bytes_of(text, word) != bytes_of(text, name) {
+    let (number_type, entry) = behind_type(entry);
+    if let Some(pointer) = behind_mark(entry, Mark::Star) {
+        return wrapped_name(text, pointer, name, INT);
+    }
+    if let Some(bracketed) = behind_mark(entry, Mark::LeftBracket) {
+        return wrapped_name(text, bracketed, name, number_type);
+    }
+    let (word, rest) = entry.split_first()?;
+    if !is_named(text, *word, name) {
         return None;
     }
-    if is_pointer {
-        return Some(PLAIN);
-    }
     Some(Declaration {
-        number_type: number_type.unwrap_or(INT),
-        elements: if is_bracketed {
-            None
-        } else {
-            elements_of(entry)
-        },
+        number_type,
+        elements: elements_of(rest),
     })
 }
 
-/// The type that a word is.
-fn type_of(word: Option<&Word>) -> Option<NumberType> {
-    match word?.token {
-        Token::Type(number_type) => Some(number_type),
-        _ => None,
+/// What is declared of a name in brackets or behind a `*`, which is no array, if these words begin with this one.
+fn wrapped_name(
+    text: &[u8],
+    words: &[Word],
+    name: Word,
+    number_type: NumberType,
+) -> Option<Declaration> {
+    let words = behind_mark(words, Mark::LeftBracket).unwrap_or(words);
+    let word = words.first()?;
+    if !is_named(text, *word, name) {
+        return None;
     }
+    Some(Declaration {
+        number_type,
+        elements: None,
+    })
 }
 
-fn has_mark(word: Option<&Word>, mark: Mark) -> bool {
-    match word {
-        Some(word) => litmus_words::is_mark(*word, mark),
-        None => false,
-    }
-}
-
-fn is_name(word: Word) -> bool {
+/// The type with which an entry begins, `int` where it does with none, and the words behind.
+pub(crate) fn behind_type(entry: &[Word]) -> (NumberType, &[Word])
+    ensures { length result.1.now ≤ length entry.now }
+{
+    let Some((word, rest)) = entry.split_first() else {
+        return (INT, entry);
+    };
     match word.token {
-        Token::Name | Token::Location(_) => true,
+        Token::Type(number_type) => (number_type, rest),
+        _ => (INT, entry),
+    }
+}
+
+/// Whether a word is this name.
+fn is_named(text: &[u8], word: Word, name: Word) -> bool {
+    match word.token {
+        Token::Name => bytes_of(text, word) == bytes_of(text, name),
         _ => false,
     }
 }
 
-/// How many elements an array has, whose name these words begin with: `x[2]`.
+/// How many elements an array has, behind whose name these words stand: `[2]`.
 fn elements_of(words: &[Word]) -> Option<u32> {
-    if !has_mark(words.get(1), Mark::LeftBracket) {
-        return None;
-    }
-    match words.get(2)?.token {
+    let inside = behind_mark(words, Mark::LeftBracket)?;
+    match inside.first()?.token {
         Token::Number(elements) => Some(elements),
         _ => None,
     }

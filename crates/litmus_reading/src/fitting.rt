@@ -7,8 +7,8 @@ use litmus_words::{Fault, Mark, Stop, Token, Word, number, start_of};
 /// or without.
 pub(crate) fn check_width(words: &[Word], width: Width, end: usize) -> Result<(), Stop> {
     let (least, most) = match width {
-        Width::Byte => (-0x80, 0xff),
-        Width::Half => (-0x8000, 0xffff),
+        Width::Byte => (-0x80_i64, 0xff_i64),
+        Width::Half => (-0x8000_i64, 0xffff_i64),
         Width::Word => return Ok(()),
     };
     let Some(word) = words.first() else {

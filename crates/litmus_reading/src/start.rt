@@ -2,9 +2,10 @@
 
 ghost use Rattle.std.specs.Prelude.{◌≤◌, length, IfOk};
 
+use crate::declarations::behind_type;
 use crate::fitting::{check_pointer, check_width};
 use crate::locations::elements_of;
-use litmus_tests::{INT, NumberType, RegisterStart, Value, Width, narrowed};
+use litmus_tests::{NumberType, RegisterStart, Value, Width, narrowed};
 use litmus_words::{
     Declared, Fault, Mark, Stop, Token, Word, behind_mark, declared, mark, natural, next,
     register_but_zero, start_of, value,
@@ -90,7 +91,7 @@ fn read_entry<'a>(start: &mut Start, words: &'a [Word], end: usize) -> Result<&'
 fn read_given(words: &[Word]) -> (Given, &[Word])
     ensures { length result.1.now ≤ length words.now }
 {
-    let (number_type, rest) = read_type(words);
+    let (number_type, rest) = behind_type(words);
     let Some(behind) = behind_mark(rest, Mark::Star) else {
         let given = Given {
             number_type,
@@ -103,19 +104,6 @@ fn read_given(words: &[Word]) -> (Given, &[Word])
         is_pointer: true,
     };
     (given, behind)
-}
-
-/// The type that stands first; `int` where none does.
-fn read_type(words: &[Word]) -> (NumberType, &[Word])
-    ensures { length result.1.now ≤ length words.now }
-{
-    let Some((word, rest)) = words.split_first() else {
-        return (INT, words);
-    };
-    match word.token {
-        Token::Type(number_type) => (number_type, rest),
-        _ => (INT, words),
-    }
 }
 
 /// Reads a value that is given so.

@@ -1,6 +1,7 @@
 -- What a condition says of a final state, and a test of all of them. [Alglave, Maranget and Tautschnig 2014,
 -- "Herding Cats": the quantified conditions of litmus tests]
-use Rattle.std.specs.Prelude.{ℕ, ◌+◌, ◌*◌, ◌%◌, ◌^◌, ◌==◌, nat_lt, Bool, true, not, if◌then◌else◌, ◌&&◌, ◌||◌, List, length, count_by}
+use Rattle.std.specs.Prelude.{ℕ, ◌+◌, ◌*◌, ◌%◌, ◌^◌, ◌==◌, nat_lt, Bool, true, not}
+use Rattle.std.specs.Prelude.{if◌then◌else◌, ◌&&◌, ◌||◌, List, length, count_by}
 use Rattle.elf_image.specs.Image.{ram_start}
 use Rattle.watched_outcomes.specs.declared.watch.Width.{Width}
 use Rattle.watched_outcomes.specs.declared.watch.Width.TheVariants.{Byte, Half, Word}

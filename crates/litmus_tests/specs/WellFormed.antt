@@ -1,5 +1,6 @@
 -- When a litmus test makes sense: what it names is there.
-use Rattle.std.specs.Prelude.{◌≡◌, ℕ, ◌+◌, ◌*◌, ◌≤◌, ◌<◌, Bool, true, false, List, length, sum_by, All, Contains, Option, Some, None, slice_get}
+use Rattle.std.specs.Prelude.{◌≡◌, ℕ, ◌+◌, ◌*◌, ◌≤◌, ◌<◌, Bool, true, false, List, length, sum_by, All, Contains}
+use Rattle.std.specs.Prelude.{Option, Some, None, slice_get}
 use Rattle.numbers.specs.Sizes.{most_harts}
 use Rattle.litmus_tests.specs.Limits.{most_steps, most_words, most_locations, most_observed}
 use Rattle.rv_instr.specs.{declared.instr.Instr.Instr, Table.IsInstructionInRange}
