@@ -22,7 +22,7 @@ WORDLESS = re.compile("more than|a comment|a string|no name|an end|register x0|a
 INSTEAD = {
     "ecall ebreak": "a hart ends behind its last instruction, without one",
     "fence.i": "fence: a test writes no code",
-    "auipc": "a number by li, or an address by a start, as 0:x6=x",
+    "auipc": "a number by li, or an address by la",
     "jalr jr ret call tail": "j and a label: a test has no addresses of code",
     "ld lwu": f"lw: {NARROW}",
     "sd": f"sw: {NARROW}",
