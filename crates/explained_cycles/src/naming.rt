@@ -6,7 +6,7 @@ ghost use Rattle.rv_instr.specs.Table.{IsInstructionInRange};
 use arrayvec::ArrayString;
 use litmus_cycles::{MemoryEvent, Relation};
 use litmus_runs::word_of;
-use litmus_tests::{LitmusStep, LitmusTest, Location, Value};
+use litmus_tests::{LitmusStep, LitmusTest, Location, Value, beginning_at};
 use rv_instr::Instr;
 use std::io;
 use std::io::Write;
@@ -50,13 +50,7 @@ pub(crate) fn write_location<W: Write>(
 
 /// The location that begins a word.
 fn location_in(test: &LitmusTest, word: usize) -> Option<&Location> {
-    let byte = word.saturating_mul(4);
-    for location in test.locations.iter() {
-        if location.byte == byte {
-            return Some(location);
-        }
-    }
-    None
+    beginning_at(test.locations.as_slice(), word.saturating_mul(4))
 }
 
 /// Writes a number in decimal; where it is an address in the locations, as the name of what is there and how many bytes

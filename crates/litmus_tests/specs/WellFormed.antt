@@ -1,6 +1,5 @@
 -- When a litmus test makes sense: what it names is there.
 use Rattle.std.specs.Prelude.{◌≡◌, ℕ, ◌+◌, ◌*◌, ◌≤◌, ◌<◌, Bool, true, false, List, length, sum_by, All, Contains}
-use Rattle.std.specs.Prelude.{Option, Some, None, slice_get}
 use Rattle.numbers.specs.Sizes.{most_harts}
 use Rattle.litmus_tests.specs.Limits.{most_steps, most_words, most_locations, most_observed}
 use Rattle.rv_instr.specs.{declared.instr.Instr.Instr, Table.IsInstructionInRange}
@@ -13,8 +12,8 @@ use Rattle.litmus_tests.specs.declared.condition.{Observed.Observed, Term.Term}
 use Rattle.litmus_tests.specs.declared.condition.Observed.TheVariants as observed
 use Rattle.litmus_tests.specs.declared.condition.Condition.{Condition, Always, Holds, Not', Both', Either', Implies', Equivalent'}
 use Rattle.litmus_tests.specs.declared.test.{LitmusTest.LitmusTest, RegisterStart.RegisterStart, Thread.Thread}
-use Rattle.litmus_tests.specs.declared.{location.Location.Location, number_type.NumberType.NumberType}
-use Rattle.watched_outcomes.specs.{Watching.bytes_of, declared.watch.Width.TheVariants.Word}
+use Rattle.litmus_tests.specs.{declared.location.Location.Location, Locations.type_of}
+use Rattle.watched_outcomes.specs.Watching.{bytes_of}
 
 -- Behind the instruction the hart goes on with the next one, whatever its registers hold, and nothing that it
 -- computes depends on where it stands.
@@ -35,18 +34,6 @@ IsValue words (Address byte) = byte < 4 * words
 -- So are the bytes of a location.
 abbrev pub IsLocation : ℕ → Location → Type 0
 IsLocation words location = location.byte + bytes_of location.number_type.width ≤ 4 * words
-
--- What number something is that is looked at: registers are words, with a sign (herd's `int`).
-abbrev pub int : NumberType
-int = record { width = Word; is_signed = true }
-
-abbrev pub type_in : Option Location → NumberType
-type_in None = int
-type_in (Some location) = location.number_type
-
-abbrev pub type_of : List Location → Observed → NumberType
-type_of locations (observed.Register hart register) = int
-type_of locations (observed.Location index) = type_in (slice_get locations index)
 
 -- What is looked at is there.
 abbrev pub IsObserved : ℕ → ℕ → Observed → Type 0

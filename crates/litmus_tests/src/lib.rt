@@ -16,7 +16,7 @@ pub mod value;
 
 pub use condition::{Condition, Observed, Quantifier, Term};
 pub use fence::{AccessSet, Fence};
-pub use location::{Element, Location, type_of};
+pub use location::{Element, Location, beginning_at, type_of};
 pub use number_type::{INT, NumberType, narrowed};
 pub use step::LitmusStep;
 pub use test::{LitmusTest, RegisterStart, Thread};

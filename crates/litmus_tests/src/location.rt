@@ -1,5 +1,5 @@
-ghost use Rattle.std.specs.Prelude.{◌≡◌};
-ghost use Rattle.litmus_tests.specs.WellFormed.{type_of};
+ghost use Rattle.std.specs.Prelude.{◌≡◌, option_map, position};
+ghost use Rattle.litmus_tests.specs.Locations.{beginning_at, begins_at, type_of};
 
 use crate::condition::Observed;
 use crate::number_type::{INT, NumberType};
@@ -39,4 +39,20 @@ pub fn type_of(locations: &[Location], observed: Observed) -> NumberType
             None => INT,
         },
     }
+}
+
+/// The location that begins at a byte, or the element that does. One begins each word of the locations.
+pub fn beginning_at(locations: &[Location], byte: usize) -> Option<&Location>
+    ensures { option_map (λ location. location.now) result ≡ beginning_at locations.now byte }
+{
+    match place_of(locations, byte) {
+        Some(index) => locations.get(index),
+        None => None,
+    }
+}
+
+fn place_of(locations: &[Location], byte: usize) -> Option<usize>
+    ensures { result ≡ position (begins_at byte) locations.now }
+{
+    locations.iter().position(|location| location.byte == byte)
 }

@@ -9,7 +9,7 @@ use Rattle.outcomes.specs.{Found.Told}
 use Rattle.watched_outcomes.specs.{Endings.Ending}
 use Rattle.text_fields.specs.Each.{each_from}
 use Rattle.litmus_tests.specs.declared.{test.LitmusTest.LitmusTest, location.Location.Location, location.Element.Element}
-use Rattle.litmus_tests.specs.WellFormed.{type_of}
+use Rattle.litmus_tests.specs.Locations.{type_of}
 use Rattle.litmus_tests.specs.declared.condition.Observed.{Observed}
 use Rattle.litmus_tests.specs.declared.condition.Observed.TheVariants as observed_as
 use Rattle.litmus_images.specs.Watching.{final_state}

@@ -1,13 +1,13 @@
 -- How numbers are written, and what is looked at. [herd's own notation: Alglave, Maranget and Tautschnig 2014,
 -- "Herding Cats"; of arrays herd7's]
 use Rattle.std.specs.Prelude.{ℕ, ◌+◌, ◌-◌, ◌*◌, ◌/◌, ◌^◌, ◌==◌, nat_lt, Bool, true, false, if◌then◌else◌}
-use Rattle.std.specs.Prelude.{List, [], ◌∷◌, ◌++◌, codes, Option, Some, None, slice_get, position, option_and_then}
+use Rattle.std.specs.Prelude.{List, [], ◌∷◌, ◌++◌, codes, Option, Some, None, slice_get}
 use Rattle.std.specs.{Fmt.decimal}
 use Rattle.elf_image.specs.Image.{ram_start}
 use Rattle.watched_outcomes.specs.declared.watch.Width.{Width}
 use Rattle.watched_outcomes.specs.declared.watch.Width.TheVariants.{Byte, Half, Word}
 use Rattle.litmus_tests.specs.declared.{test.LitmusTest.LitmusTest, location.Location.Location, location.Element.Element}
-use Rattle.litmus_tests.specs.declared.number_type.NumberType.{NumberType}
+use Rattle.litmus_tests.specs.{declared.number_type.NumberType.NumberType, Locations.beginning_at}
 use Rattle.litmus_tests.specs.declared.value.Value.{Value}
 use Rattle.litmus_tests.specs.declared.value.Value.TheVariants.{Number, Address}
 use Rattle.litmus_tests.specs.declared.condition.Observed.{Observed}
@@ -30,13 +30,9 @@ abbrev pub typed_text : NumberType → ℕ → List ℕ
 typed_text kind number = if kind.is_signed then signed_of kind.width number else decimal number
 
 -- An address is the name of the location or the array in which it is, and behind that how many bytes it stands behind
--- its begin, if any. A location begins each word.
-abbrev pub begins_at : ℕ → Location → Bool
-begins_at byte location = location.byte == byte
-
+-- its begin, if any. A location or an element begins each word.
 abbrev pub location_at : LitmusTest → ℕ → Option Location
-location_at test byte = option_and_then (λ index. slice_get test.locations.items index)
-    (position (begins_at (4 * (byte / 4))) test.locations.items)
+location_at test byte = beginning_at test.locations.items (4 * (byte / 4))
 
 abbrev pub offset_text : ℕ → List ℕ
 offset_text offset = if offset == 0 then [] else codes "+" ++ decimal offset

@@ -1,15 +1,15 @@
 //! The spelling of numbers, of addresses, and of what is looked at.
 
-ghost use Rattle.std.specs.Prelude.{◌≡◌, ◌-◌, ◌++◌, codes, OnOk, option_map, position};
+ghost use Rattle.std.specs.Prelude.{◌≡◌, ◌-◌, ◌++◌, codes, OnOk, option_map};
 ghost use Rattle.std.specs.Fmt.{decimal};
 ghost use Rattle.std.specs.Io.KnownBytes.{Appends};
-ghost use Rattle.litmus_text.specs.Value.{address_text, begins_at, indexed_text, located_text, location_at};
+ghost use Rattle.litmus_text.specs.Value.{address_text, indexed_text, located_text, location_at};
 ghost use Rattle.litmus_text.specs.Value.{location_by, number_text, observed_text, offset_text, register_text};
 ghost use Rattle.litmus_text.specs.Value.{signed_below, signed_of, typed_text, value_text};
 
 use arrayvec::ArrayString;
 use elf_image::RAM_START;
-use litmus_tests::{Element, LitmusTest, Location, NumberType, Observed, Value};
+use litmus_tests::{Element, LitmusTest, Location, NumberType, Observed, Value, beginning_at};
 use numbers::Reg;
 use std::io;
 use std::io::Write;
@@ -45,21 +45,11 @@ fn location_by(test: &LitmusTest, number: u32) -> Option<&Location>
     location_at(test, (number - RAM_START) as usize)
 }
 
-/// The location or the array in which a byte is, by the location that begins its word.
+/// The location or the array in which a byte is, by what begins its word.
 fn location_at(test: &LitmusTest, byte: usize) -> Option<&Location>
     ensures { option_map (λ location. location.now) result ≡ location_at test.now byte }
 {
-    match place_of(&test.locations, 4 * (byte / 4)) {
-        Some(index) => test.locations.get(index),
-        None => None,
-    }
-}
-
-/// The index of the location that begins at a byte.
-fn place_of(locations: &[Location], byte: usize) -> Option<usize>
-    ensures { result ≡ position (begins_at byte) locations.now }
-{
-    locations.iter().position(|location| location.byte == byte)
+    beginning_at(&test.locations, 4 * (byte / 4))
 }
 
 /// Writes a byte of a location or an array: its name, and how far behind its begin.
