@@ -4,7 +4,7 @@
 use litmus_reading::{MOST_BYTES, ReadingRefused, read_litmus};
 use litmus_tests::{
     AccessSet, Condition, Fence, LitmusStep, LitmusTest, Observed, Quantifier, RegisterStart, Term,
-    Value, Width, narrowed, type_of,
+    Value, Width, beginning_at, narrowed, type_of,
 };
 use rv_instr::{BranchOp, ImmediateOp, Instr, LoadOp, Ordering, RegisterOp, StoreOp};
 use rv_word::AmoKind;
@@ -646,6 +646,10 @@ fn reads_types_and_arrays(rt: HostRuntime) {
     assert!(rt; test.observed.as_slice() == [second].as_slice());
     let byte = type_of(test.locations.as_slice(), second);
     assert!(rt; byte.width == Width::Byte && byte.is_signed);
+    match beginning_at(test.locations.as_slice(), 4) {
+        Some(last) => assert!(rt; last.name.as_slice() == b"b".as_slice() && last.begin == 0),
+        None => assert!(rt; false),
+    }
 }
 
 #[test]

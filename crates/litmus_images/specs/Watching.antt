@@ -4,19 +4,19 @@ use Rattle.std.specs.{Prelude.option_and_then, List.filter_map}
 use Rattle.watched_outcomes.specs.{Endings.Ending, declared.watch.WatchedRegister.WatchedRegister}
 use Rattle.watched_outcomes.specs.declared.watch.{WatchedBytes.WatchedBytes, Width.TheVariants.Word}
 use Rattle.litmus_tests.specs.declared.condition.Observed.{Observed}
-use Rattle.litmus_tests.specs.declared.condition.Observed.TheVariants.{Register, Location}
+use Rattle.litmus_tests.specs.declared.condition.Observed.TheVariants as observed_as
 use Rattle.litmus_tests.specs.declared.test.LitmusTest.{LitmusTest}
 use Rattle.litmus_tests.specs.{Conditions.FinalState, declared.location.Location.Location}
 use Rattle.elf_image.specs.Image.{ram_start}
 
 -- The register that is looked at, where it is one; and the location.
 abbrev pub register_of : Observed → Option WatchedRegister
-register_of (Register hart register) = Some (record { hart = hart; register = register })
-register_of (Location index) = None
+register_of (observed_as.Register hart register) = Some (record { hart = hart; register = register })
+register_of (observed_as.Location index) = None
 
 abbrev pub location_of : Observed → Option ℕ
-location_of (Register hart register) = None
-location_of (Location index) = Some index
+location_of (observed_as.Register hart register) = None
+location_of (observed_as.Location index) = Some index
 
 -- All registers that are looked at, in order, and all locations.
 abbrev pub registers_observed : List Observed → List WatchedRegister
@@ -49,7 +49,7 @@ number_at_place numbers place = unwrap_or (option_and_then (λ i. slice_get numb
 
 -- The final state that an end is in which those registers and bytes were watched: each has the number at its place.
 unfoldable pub final_state : LitmusTest → Ending → FinalState
-final_state test ending (Register hart register) = number_at_place ending.registers
+final_state test ending (observed_as.Register hart register) = number_at_place ending.registers
     (position (λ w. w.hart == hart && w.register == register) (registers_observed test.observed.items))
-final_state test ending (Location index) = number_at_place ending.words
+final_state test ending (observed_as.Location index) = number_at_place ending.words
     (position (λ l. l == index) (locations_observed test.observed.items))

@@ -10,7 +10,7 @@ use Rattle.litmus_words.specs.declared.word.Mark.TheVariants as mark
 use Rattle.litmus_words.specs.{Mnemonics.IsNamed, Numbers.SpellsNumeral}
 use Rattle.litmus_tests.specs.declared.number_type.NumberType.{NumberType}
 use Rattle.watched_outcomes.specs.declared.watch.Width.{Width}
-use Rattle.watched_outcomes.specs.declared.watch.Width.TheVariants as width
+use Rattle.watched_outcomes.specs.declared.watch.Width.TheVariants as width_kind
 
 -- The register of this name; x0 is also `zero`, and x8 also `fp` (the RISC-V psABI).
 abbrev pub IsRegisterNamed : List ℕ → ℕ → Type 0
@@ -49,12 +49,12 @@ IsMarkNamed text mark.Filter = text ≡ codes "filter"
 -- The types of numbers of 8 to 32 bits, with a sign or without. [ISO C, 7.20.1.1; `char` has no sign and `short` 16 bits
 -- by the RISC-V psABI]
 abbrev pub HasTypeName : Width → Bool → List ℕ → Type 0
-HasTypeName width.Byte true text = text ≡ codes "int8_t"
-HasTypeName width.Byte false text = (text ≡ codes "uint8_t") ⊎ (text ≡ codes "char")
-HasTypeName width.Half true text = (text ≡ codes "int16_t") ⊎ (text ≡ codes "short")
-HasTypeName width.Half false text = text ≡ codes "uint16_t"
-HasTypeName width.Word true text = (text ≡ codes "int") ⊎ (text ≡ codes "int32_t")
-HasTypeName width.Word false text = (text ≡ codes "unsigned") ⊎ (text ≡ codes "uint32_t")
+HasTypeName width_kind.Byte true text = text ≡ codes "int8_t"
+HasTypeName width_kind.Byte false text = (text ≡ codes "uint8_t") ⊎ (text ≡ codes "char")
+HasTypeName width_kind.Half true text = (text ≡ codes "int16_t") ⊎ (text ≡ codes "short")
+HasTypeName width_kind.Half false text = text ≡ codes "uint16_t"
+HasTypeName width_kind.Word true text = (text ≡ codes "int") ⊎ (text ≡ codes "int32_t")
+HasTypeName width_kind.Word false text = (text ≡ codes "unsigned") ⊎ (text ≡ codes "uint32_t")
 
 abbrev pub IsTypeNamed : List ℕ → NumberType → Type 0
 IsTypeNamed text number_type = HasTypeName number_type.width number_type.is_signed text
