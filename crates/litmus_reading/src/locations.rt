@@ -91,13 +91,13 @@ pub(crate) fn count_of(names: &[Named]) -> usize {
 /// Whether a word is a name that isn't among these.
 fn is_new(text: &[u8], names: &[Named], word: Word) -> bool {
     match word.token {
-        Token::Name => named(text, names, word).is_none(),
+        Token::Name => declared_of(text, names, word).is_none(),
         _ => false,
     }
 }
 
 /// What a word is the name of, among these.
-fn named(text: &[u8], names: &[Named], word: Word) -> Option<Declared> {
+fn declared_of(text: &[u8], names: &[Named], word: Word) -> Option<Declared> {
     for name in names {
         if bytes_of(text, name.word) == bytes_of(text, word) {
             return Some(name.declared);
@@ -132,7 +132,7 @@ pub(crate) fn located(
 
 fn located_word(text: &[u8], word: Word, names: &[Named]) -> Word {
     match word.token {
-        Token::Name => match named(text, names, word) {
+        Token::Name => match declared_of(text, names, word) {
             Some(declared) => Word {
                 token: Token::Location(declared),
                 ..word
