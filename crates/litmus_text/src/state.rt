@@ -1,6 +1,6 @@
 //! The line of a final state.
 
-ghost use Rattle.std.specs.Prelude.{◌≡◌, ◌<◌, ◌≤◌, ◌++◌, ◌∷◌, [], codes, OnOk, Some, length, slice_get, position, option_map};
+ghost use Rattle.std.specs.Prelude.{◌≡◌, ◌<◌, ◌≤◌, ◌++◌, ◌∷◌, [], codes, OnOk, Some, length, slice_get, position};
 ghost use Rattle.litmus_text.specs.{State.whole_element, Value.observed_text};
 ghost use Rattle.std.specs.Io.KnownBytes.{Appends};
 ghost use Rattle.litmus_tests.specs.declared.condition.Observed.{Observed as AnyObserved};
@@ -12,7 +12,7 @@ ghost use Rattle.litmus_text.specs.State.{is_told, first_told, space_before};
 use crate::value::{write_number, write_observed};
 use arrayvec::ArrayString;
 use litmus_images::value_in;
-use litmus_tests::{Element, LitmusTest, Location, Observed, type_of};
+use litmus_tests::{Element, LitmusTest, Observed, type_of};
 use smt_model::Status;
 use std::io;
 use std::io::Write;
@@ -99,14 +99,14 @@ fn element_in(test: &LitmusTest, observed: Observed) -> Option<Element>
 {
     match observed {
         Observed::Register { .. } => None,
-        Observed::Location(index) => element_of(test.locations.get(index)),
+        Observed::Location(index) => element_at(test, index),
     }
 }
 
-fn element_of(location: Option<&Location>) -> Option<Element>
-    ensures { result ≡ element_of (option_map (λ l. l.now) location) }
+fn element_at(test: &LitmusTest, index: usize) -> Option<Element>
+    ensures { result ≡ element_of (slice_get test.now.locations.items index) }
 {
-    match location {
+    match test.locations.get(index) {
         Some(location) => whole_element(location.element),
         None => None,
     }

@@ -1,6 +1,6 @@
 //! The spelling of numbers, of addresses, and of what is looked at.
 
-ghost use Rattle.std.specs.Prelude.{◌≡◌, ◌-◌, ◌++◌, codes, OnOk, option_map};
+ghost use Rattle.std.specs.Prelude.{◌≡◌, ◌-◌, ◌++◌, codes, slice_get, OnOk, option_map};
 ghost use Rattle.std.specs.Fmt.{decimal};
 ghost use Rattle.std.specs.Io.KnownBytes.{Appends};
 ghost use Rattle.litmus_text.specs.Value.{address_text, indexed_text, located_text, location_at};
@@ -153,7 +153,7 @@ pub(crate) fn write_observed<W: Write>(
 {
     match observed {
         Observed::Register { hart, register } => write_register(hart, register, out),
-        Observed::Location(index) => write_located(test.locations.get(index), out),
+        Observed::Location(index) => write_located(test, index, out),
     }
 }
 
@@ -169,11 +169,11 @@ fn write_register<W: Write>(hart: u8, register: Reg, out: &mut W) -> io::Result<
 }
 
 /// Writes a location as it is looked at; nothing where there is none.
-fn write_located<W: Write>(location: Option<&Location>, out: &mut W) -> io::Result<()>
+fn write_located<W: Write>(test: &LitmusTest, index: usize, out: &mut W) -> io::Result<()>
     ensures { OnOk result (Appends (W.contents out.old) (W.contents out.new)
-        (located_text (option_map (λ l. l.now) location))) }
+        (located_text (slice_get test.now.locations.items index))) }
 {
-    match location {
+    match test.locations.get(index) {
         Some(location) => write_indexed(location, location.element, out),
         None => Ok(()),
     }
