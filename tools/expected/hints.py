@@ -3,7 +3,9 @@
 import json
 
 MOST_LINES = 6
-PARTS = "error tip usage more file place word line cause expected meant usually for see".split()
+# Of a litmus test with further faults.
+MOST_OF_SEVERAL = 15
+PARTS = "error tip usage more file place word line cause expected meant usually for see further".split()
 
 
 def is_shown(text):
@@ -11,9 +13,16 @@ def is_shown(text):
     return all(byte >= 0x20 and byte != 0x7F for byte in text)
 
 
-def is_line(line):
+def are_parts(names):
+    """Whether a hint can have parts of these names: where it tells of further faults, more of them."""
+    most = MOST_OF_SEVERAL if "further" in names else MOST_LINES
+    return len(names) <= most and all(name in PARTS for name in names)
+
+
+def name_of(line):
+    """The name of a line's part; empty where it is no such line."""
     name, colon, _ = line[1:].partition(b": ")
-    return line[:1] == b" " and bool(colon) and name.decode("latin-1") in PARTS and is_shown(line)
+    return name.decode("latin-1") if line[:1] == b" " and colon and is_shown(line) else ""
 
 
 def is_object(line, fault, status):
@@ -27,7 +36,9 @@ def is_object(line, fault, status):
     if list(found) != ["fault", "status", "hint"] or (found["fault"].encode(), found["status"]) != (fault, status):
         return False
     parts = found["hint"]
-    is_right = all(list(part) == ["part", "text"] and part["part"] in PARTS for part in parts) and len(parts) <= MOST_LINES
+    if any(list(part) != ["part", "text"] for part in parts):
+        return False
+    is_right = are_parts([part["part"] for part in parts])
     return is_right and json.dumps(found, separators=(",", ":"), ensure_ascii=False).encode() == line[1:]
 
 
@@ -42,5 +53,5 @@ def without_hint(told, status, how):
     if how == "json":
         is_hint = len(lines) == 1 and is_object(lines[0], first.removeprefix(b"smtsim: "), status)
     else:
-        is_hint = len(lines) <= MOST_LINES and all(is_line(line) for line in lines)
+        is_hint = are_parts([name_of(line) for line in lines])
     return first + newline if is_hint else told
