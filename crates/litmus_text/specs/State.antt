@@ -51,7 +51,7 @@ abbrev pub closing_text : Option Element → List ℕ
 closing_text None = codes ";"
 closing_text (Some element) = if element.count - element.index == 1 then 125 ∷ 59 ∷ [] else []
 
-abbrev pub equation_text : LitmusTest → ℕ → Observed → ℕ → List ℕ
+unfoldable pub equation_text : LitmusTest → ℕ → Observed → ℕ → List ℕ
 equation_text test index observed number = opening_text test index observed (element_in test observed)
     ++ (number_text test (type_of test.locations.items observed) number ++ closing_text (element_in test observed))
 

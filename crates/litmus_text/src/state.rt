@@ -77,6 +77,7 @@ fn write_part<W: Write>(
     write_equation(test, index, test.observed[index], number, out)
 }
 
+#[tactic(auto, unfolding(crate::specs::State::equation_text))]
 fn write_equation<W: Write>(
     test: &LitmusTest,
     index: usize,
