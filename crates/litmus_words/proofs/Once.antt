@@ -1,7 +1,7 @@
 -- At a byte of a text one word begins at most.
 use Rattle.std.proofs.Common.{◌≡◌, ◌⊎◌, ℕ, ◌+◌, ◌-◌, ◌^◌, ◌<◌, ◌≤◌, Bool, true, false, ◌||◌, ◌==◌, List, [], ◌∷◌, length, take, drop}
 use Rattle.std.proofs.Common.{get_or, refl, sym, ap, ◌∙◌, subst, inl, inr, arith, All, length-drop}
-use Rattle.std.proofs.lemmas.{Bool.Decides.nat_tests, Bool.cases_order, Bool.true≢false, Fmt.decimal_injective, List.Elements.All-head, List.Elements.All-tail, List.get_or-drop, List.get_or-take}
+use Rattle.std.proofs.lemmas.{Bool.Decides.nat_tests, Bool.cases_order, Bool.true≢false, Fmt.decimal_injective, List.Elements.All-head, List.Elements.All-tail, List.get_or-drop, List.get_or-take, List.length-take-le}
 use Rattle.std.specs.{Prelude.slice_index, Prelude.slice_range, Str.IsAscii}
 use Rattle.std.specs.Char.{is_ascii_alphabetic, is_ascii_alphanumeric, is_ascii_digit, is_ascii_whitespace}
 use Rattle.std.specs.Fmt.{decimal}
@@ -33,10 +33,10 @@ no_hexadecimal text digits number (inl e) h = no_letter_digit text 120 digits nu
 no_hexadecimal text digits number (inr e) h = no_letter_digit text 88 digits number e refl h
 
 same_digits : (text one other : List ℕ) → IsHexadecimal text one → IsHexadecimal text other → one ≡ other
-same_digits text one other (inl a) (inl b) = grind (arith, a, b)
-same_digits text one other (inl a) (inr b) = grind (arith, a, b)
-same_digits text one other (inr a) (inl b) = grind (arith, a, b)
-same_digits text one other (inr a) (inr b) = grind (arith, a, b)
+same_digits text one other (inl a) (inl b) = cc
+same_digits text one other (inl a) (inr b) = cc
+same_digits text one other (inr a) (inl b) = cc
+same_digits text one other (inr a) (inr b) = cc
 
 numeral_once : (text : List ℕ) (one other : ℕ) → SpellsNumeral text one → SpellsNumeral text other → one ≡ other
 numeral_once text one other (inl a) (inl b) = a.value ∙ sym b.value
@@ -90,7 +90,8 @@ first_of_part text from to some =
     ∙ ap (slice_index text) (omega arith)
 
 pub part_length : (text : List ℕ) (from to : ℕ) → to ≤ length text → length (slice_range text from to) ≡ to - from
-part_length text from to inside = grind (arith, length-drop)
+part_length text from to inside =
+    let long = length-drop from text in length-take-le (to - from) (drop from text) (omega (arith, long, inside))
 
 letter_no_digit : (byte : ℕ) → begins_name byte ≡ true → is_ascii_digit byte ≡ true → ⊥
 letter_no_digit byte a b = grind (arith, nat_tests)
@@ -134,52 +135,52 @@ no_gap_at_word text word some (inr (inr h)) =
 
 -- one word
 abbrev pub made : ℕ → ℕ → Token → Word
-made start end token = record { start = start; end = end; token = token }
+made from to it = record { start = from; end = to; token = it }
 
-same_parts : (start end end' : ℕ) (token token' : Token) → end ≡ end' → token ≡ token'
-    → made start end token ≡ made start end' token'
-same_parts start end end' token token' e t = ap (λ n. made start n token) e ∙ ap (made start end') t
+same_parts : (start end end' : ℕ) (one other : Token) → end ≡ end' → one ≡ other
+    → made start end one ≡ made start end' other
+same_parts start end end' one other e t = ap (λ (n : ℕ). made start n one) e ∙ ap (λ (it : Token). made start end' it) t
 
-pub word_once : (text : List ℕ) (start end end' : ℕ) (token token' : Token) → start < end → start < end'
-    → end ≤ length text → end' ≤ length text → IsWordOf text (made start end token)
-    → IsWordOf text (made start end' token') → made start end token ≡ made start end' token'
-word_once text start end end' token token' some some' inside inside' (inl a) (inl b) =
+pub word_once : (text : List ℕ) (start end end' : ℕ) (one other : Token) → start < end → start < end'
+    → end ≤ length text → end' ≤ length text → IsWordOf text (made start end one)
+    → IsWordOf text (made start end' other) → made start end one ≡ made start end' other
+word_once text start end end' one other some some' inside inside' (inl a) (inl b) =
     let same = goes_on_once text start end end' (omega (arith, some)) (omega (arith, some')) a.whole b.whole in
-    same_parts start end end' token token' same
-    (name_once (slice_range text start end') token token'
-    (subst (λ n. IsNameToken (slice_range text start n) token) same a.token) b.token)
-word_once text start end end' token token' some some' inside inside' (inl a) (inr (inl b)) =
+    same_parts start end end' one other same
+    (name_once (slice_range text start end') one other
+    (subst (λ (n : ℕ). IsNameToken (slice_range text start n) one) same a.token) b.token)
+word_once text start end end' one other some some' inside inside' (inl a) (inr (inl b)) =
     absurd (letter_no_digit _ a.begins b.begins)
-word_once text start end end' token token' some some' inside inside' (inl a) (inr (inr b)) =
+word_once text start end end' one other some some' inside inside' (inl a) (inr (inr b)) =
     absurd (not_true _ (sign_at text start end' b.mark some' b.named).0 a.begins)
-word_once text start end end' token token' some some' inside inside' (inr (inl a)) (inl b) =
+word_once text start end end' one other some some' inside inside' (inr (inl a)) (inl b) =
     absurd (letter_no_digit _ b.begins a.begins)
-word_once text start end end' token token' some some' inside inside' (inr (inl a)) (inr (inl b)) =
+word_once text start end end' one other some some' inside inside' (inr (inl a)) (inr (inl b)) =
     let same = goes_on_once text start end end' (omega (arith, some)) (omega (arith, some')) a.whole b.whole in
-    let spelled = subst (λ n. SpellsNumeral (slice_range text start n) a.number) same a.spelled.0 in
-    same_parts start end end' token token' same
+    let spelled = subst (λ (n : ℕ). SpellsNumeral (slice_range text start n) a.number) same a.spelled.0 in
+    same_parts start end end' one other same
     (a.is ∙ ap token.Number (numeral_once (slice_range text start end') a.number b.number spelled b.spelled.0) ∙ sym b.is)
-word_once text start end end' token token' some some' inside inside' (inr (inl a)) (inr (inr b)) =
+word_once text start end end' one other some some' inside inside' (inr (inl a)) (inr (inr b)) =
     absurd (not_true _ (sign_at text start end' b.mark some' b.named).1 a.begins)
-word_once text start end end' token token' some some' inside inside' (inr (inr a)) (inl b) =
+word_once text start end end' one other some some' inside inside' (inr (inr a)) (inl b) =
     absurd (not_true _ (sign_at text start end a.mark some a.named).0 b.begins)
-word_once text start end end' token token' some some' inside inside' (inr (inr a)) (inr (inl b)) =
+word_once text start end end' one other some some' inside inside' (inr (inr a)) (inr (inl b)) =
     absurd (not_true _ (sign_at text start end a.mark some a.named).1 b.begins)
-word_once text start end end' token token' some some' inside inside' (inr (inr a)) (inr (inr b)) =
+word_once text start end end' one other some some' inside inside' (inr (inr a)) (inr (inr b)) =
     let here = a.longest b.mark end' inside' b.named in
     let there = b.longest a.mark end inside a.named in
     let same : end ≡ end' = omega (arith, here, there) in
-    let named = subst (λ n. IsSignNamed (slice_range text start n) a.mark) same a.named in
-    same_parts start end end' token token' same
+    let named = subst (λ (n : ℕ). IsSignNamed (slice_range text start n) a.mark) same a.named in
+    same_parts start end end' one other same
     (a.is ∙ ap token.Mark (sign_once (slice_range text start end') a.mark b.mark named b.named) ∙ sym b.is)
 
 -- the same of whole words
 pub same_word : (text : List ℕ) (at : ℕ) (one other : Word) → IsWordAt text at one → IsWordAt text at other → one ≡ other
 same_word text at one other a b =
     let same : one.start ≡ other.start = a.begins ∙ sym b.begins in
-    let here = subst (λ n. IsWordOf text (made n one.end one.token)) same a.is in
-    let some = subst (λ n. n < one.end) same a.some in
-    ap (λ n. made n one.end one.token) same
+    let here = subst (λ (n : ℕ). IsWordOf text (made n one.end one.token)) same a.is in
+    let some = subst (λ (n : ℕ). n < one.end) same a.some in
+    ap (λ (n : ℕ). made n one.end one.token) same
     ∙ word_once text other.start one.end other.end one.token other.token some b.some a.inside b.inside here b.is
 
 -- a run of bytes, one further; and where it ends
@@ -189,7 +190,7 @@ pub one_further : (text : List ℕ) (from at : ℕ)
 one_further text from at before here k low high = by_order (cases_order k at)
   where
     by_order : (k ≡ at) ⊎ ((k < at) ⊎ (at < k)) → is_of_name (slice_index text k) ≡ true
-    by_order (inl same) = ap (λ n. is_of_name (slice_index text n)) same ∙ here
+    by_order (inl same) = ap (λ (n : ℕ). is_of_name (slice_index text n)) same ∙ here
     by_order (inr (inl less)) = before k low less
     by_order (inr (inr more)) = absurd (omega (arith, more, high))
 
@@ -212,7 +213,7 @@ with_first text at to here h = record {
 }
   where
     first_or_later : (k : ℕ) → at ≤ k → k < to → (k ≡ at) ⊎ ((k < at) ⊎ (at < k)) → is_of_name (slice_index text k) ≡ true
-    first_or_later k low high (inl same) = ap (λ n. is_of_name (slice_index text n)) same ∙ here
+    first_or_later k low high (inl same) = ap (λ (n : ℕ). is_of_name (slice_index text n)) same ∙ here
     first_or_later k low high (inr (inl less)) = absurd (omega (arith, less, low))
     first_or_later k low high (inr (inr more)) = h.each k (omega (arith, more)) high
 
@@ -234,9 +235,9 @@ is_ascii_name name each i = by_order (cases_order i (length name))
     by_order (inr (inr more)) = let past = past_end name i (omega (arith, more)) in omega (arith, past)
 
 -- which word is there
-pub name_there : (text : List ℕ) (at end : ℕ) (token : Token) → begins_name (slice_index text at) ≡ true
-    → GoesOn text (at + 1) end → IsNameToken (slice_range text at end) token → IsWordOf text (made at end token)
-name_there text at end token begins whole is =
+pub name_there : (text : List ℕ) (at end : ℕ) (it : Token) → begins_name (slice_index text at) ≡ true
+    → GoesOn text (at + 1) end → IsNameToken (slice_range text at end) it → IsWordOf text (made at end it)
+name_there text at end it begins whole is =
     inl (record { begins = begins; whole = with_first text at end (letter_goes_on _ begins) whole; token = is })
 
 pub number_there : (text : List ℕ) (at end number : ℕ) → is_ascii_digit (slice_index text at) ≡ true

@@ -1,9 +1,9 @@
 -- Each name is that of one thing: a search of all names finds it.
 use Rattle.std.proofs.Common.{◌≡◌, ℕ, zero, suc, ◌+◌, ◌<◌, ◌≤◌, Bool, true, false, ◌==◌, ◌-◌, ◌⊎◌, ◌&&◌, if◌then◌else◌, List, [], ◌∷◌, length}
 use Rattle.std.proofs.Common.{Option, Some, None, refl, sym, ap, ◌∙◌, inl, inr, arith}
-use Rattle.std.proofs.lemmas.{Bool.false≢true, Bool.Decides.nat_tests, Fmt.decimal_nonempty}
+use Rattle.std.proofs.lemmas.{Bool.false≢true, Bool.Decides.nat_tests, Fmt.decimal_nonempty, Str.Ascii.IsAscii-cons, Str.Ascii.IsAscii-nil}
 use Rattle.std.proofs.lemmas.Slice.Eq.{bytes_eq-Decides}
-use Rattle.std.specs.{Prelude.codes, Prelude.nat_lt, Prelude.slice_index, Str.bytes_eq, Fmt.decimal, List.list_all}
+use Rattle.std.specs.{Prelude.codes, Prelude.nat_lt, Prelude.slice_index, Str.bytes_eq, Str.IsAscii, Fmt.decimal, List.list_all}
 use Rattle.std.specs.{Char.is_ascii_digit, Char.is_ascii_whitespace, Prelude.not}
 use Rattle.text_fields.specs.Reading.{decimal_after}
 use Rattle.text_fields.proofs.DecimalLaws.{decimal_after-decimal, decimal_digits}
@@ -206,6 +206,11 @@ both_true true true e = (refl, refl)
 both_true true false e = absurd (false≢true e)
 both_true false b e = absurd (false≢true e)
 
+ascii_from : (text : List ℕ) → list_all (λ b. nat_lt b 128) text ≡ true → IsAscii text
+ascii_from [] all = IsAscii-nil
+ascii_from (b ∷ bs) all =
+    let both = both_true (nat_lt b 128) _ all in IsAscii-cons b bs (less_from b 128 both.0) (ascii_from bs both.1)
+
 not_false : (b : Bool) → not b ≡ true → b ≡ false
 not_false true e = absurd (false≢true e)
 not_false false e = refl
@@ -234,6 +239,9 @@ sign_is text m is =
       no_digit = not_false _ d.1;
       dark = not_false _ e.1;
     }
+
+pub sign_ascii : (text : List ℕ) (m : Mark) → IsSignNamed text m → IsAscii text
+sign_ascii text m is = ascii_from text (sign_is text m is).ascii
 
 pub sign_once : (text : List ℕ) (m other : Mark) → IsSignNamed text m → IsSignNamed text other → m ≡ other
 sign_once text m other a b = found_once signs text m other (sign_found text m a) (sign_found text other b)

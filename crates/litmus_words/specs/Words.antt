@@ -87,7 +87,7 @@ rank (token.Type number_type) = 2
 rank (token.Mnemonic mnemonic) = 3
 rank (token.Hart hart) = 4
 rank token.Name = 5
-rank token = 6
+rank other = 6
 
 -- What a name is: of all that its bytes spell, the first in that order.
 pub record IsNameToken (name : List ℕ) (token : Token) : Type 0 where
