@@ -106,3 +106,8 @@ pub gap_at_end : (text : List ℕ) (at to : ℕ) → length text ≤ at → IsGa
 gap_at_end text at to over gap =
     let zero_there : slice_index text at ≡ 0 = past_end text at over in
     gap_is_over text at to (ap is_ascii_whitespace zero_there) (λ o. let a = o.0 in absurd (omega (arith, zero_there, a))) gap
+
+-- no comment opens where they are over
+pub closed_there : (text : List ℕ) (at : ℕ) → at < length text → IsGapEnd text at → Opens text at → ⊥
+closed_there text at inside (inl over) opened = absurd (omega (arith, inside, over))
+closed_there text at inside (inr begins) opened = begins.1 opened

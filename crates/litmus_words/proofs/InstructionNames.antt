@@ -115,7 +115,7 @@ taken_is row_of.Ecall e = absurd (false≢true e)
 taken_is row_of.Ebreak e = absurd (false≢true e)
 taken_is _ e = refl
 
-pub of_row_is : (row : Row) (m : Mnemonic) → IsOfRow row m → of_row row ≡ Some m
+of_row_is : (row : Row) (m : Mnemonic) → IsOfRow row m → of_row row ≡ Some m
 unfolding of_row
 of_row_is row (name.Row other) (e, taken) = taken_is row taken ∙ ap (λ (r : Row). Some (name.Row r)) e
 of_row_is row (name.Branch op) e = ap of_row e

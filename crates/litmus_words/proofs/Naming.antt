@@ -15,11 +15,11 @@ use Rattle.litmus_words.specs.declared.word.Token.TheVariants as token
 use Rattle.litmus_words.specs.Mnemonics.{HasDotBetween, IsNamed}
 use Rattle.litmus_words.specs.Words.{IsKeywordNamed, IsNameToken, IsRegisterNamed, IsTypeNamed, SpellsToken, rank}
 
-behind : (a b : ℕ) (xs ys : List ℕ) → a ∷ xs ≡ b ∷ ys → xs ≡ ys
-behind a b xs ys e = cc
+same_rest : (a b : ℕ) (xs ys : List ℕ) → a ∷ xs ≡ b ∷ ys → xs ≡ ys
+same_rest a b xs ys e = cc
 
-first : (a b : ℕ) (xs ys : List ℕ) → a ∷ xs ≡ b ∷ ys → a ≡ b
-first a b xs ys e = cc
+same_first : (a b : ℕ) (xs ys : List ℕ) → a ∷ xs ≡ b ∷ ys → a ≡ b
+same_first a b xs ys e = cc
 
 pub hart_is : (name digits : List ℕ) (letter hart : ℕ) → name ≡ letter ∷ digits → letter ≡ 80
     → Ok hart ≡ decimal_field (2 ^ 32 - 1) digits → name ≡ 80 ∷ decimal hart
@@ -30,13 +30,13 @@ hart_is name digits letter hart cut is read =
 pub no_hart : (name digits : List ℕ) (letter : ℕ) (fault : FieldError) → name ≡ letter ∷ digits
     → Err fault ≡ decimal_field (2 ^ 32 - 1) digits → (hart : ℕ) → hart < 2 ^ 32 → name ≡ 80 ∷ decimal hart → ⊥
 no_hart name digits letter fault cut read hart small is =
-    let same : digits ≡ decimal hart = behind (letter) 80 digits (decimal hart) (sym cut ∙ is) in
+    let same : digits ≡ decimal hart = same_rest letter 80 digits (decimal hart) (sym cut ∙ is) in
     let field = decimal_field-decimal (2 ^ 32 - 1) hart (omega (arith, small)) (grind arith) in
     let both : Err fault ≡ Ok hart = read ∙ ap (decimal_field (2 ^ 32 - 1)) same ∙ field in cc
 
 pub no_letter : (name digits : List ℕ) (letter : ℕ) → name ≡ letter ∷ digits → (letter ≡ 80 → ⊥) → (hart : ℕ)
     → name ≡ 80 ∷ decimal hart → ⊥
-no_letter name digits letter cut other hart is = other (first letter 80 digits (decimal hart) (sym cut ∙ is))
+no_letter name digits letter cut other hart is = other (same_first letter 80 digits (decimal hart) (sym cut ∙ is))
 
 -- what comes first of all that a name's bytes spell
 pub names_register : (name : List ℕ) (register : ℕ) → IsRegisterNamed name register
@@ -118,11 +118,11 @@ dot_place _ rest = refl
 
 same_front : (a b x y : List ℕ) → length a ≡ length b → a ++ x ≡ b ++ y → (a ≡ b) × (x ≡ y)
 same_front [] [] x y long e = (refl, e)
-same_front [] (b ∷ bs) x y long e = absurd (omega (arith, long))
-same_front (a ∷ as) [] x y long e = absurd (omega (arith, long))
-same_front (a ∷ as) (b ∷ bs) x y long e =
-    let rest = same_front as bs x y (omega (arith, long)) (behind a b (as ++ x) (bs ++ y) e) in
-    (ap (λ (l : ℕ). l ∷ as) (first a b (as ++ x) (bs ++ y) e) ∙ ap (λ (t : List ℕ). b ∷ t) rest.0, rest.1)
+same_front [] (b ∷ ys) x y long e = absurd (omega (arith, long))
+same_front (a ∷ rest) [] x y long e = absurd (omega (arith, long))
+same_front (a ∷ xs) (b ∷ ys) x y long e =
+    let rest = same_front xs ys x y (omega (arith, long)) (same_rest a b (xs ++ x) (ys ++ y) e) in
+    (ap (λ (l : ℕ). l ∷ xs) (same_first a b (xs ++ x) (ys ++ y) e) ∙ ap (λ (t : List ℕ). b ∷ t) rest.0, rest.1)
 
 pub has_dot : (name : List ℕ) (row : Row) → HasDotBetween name row → (op : AtomicOp) × (name ≡ atomic_name op ++ 46 ∷ codes "w.aq.rl")
 has_dot name (row_of.Atomic op ordering) h = (op, h.0)
@@ -142,4 +142,4 @@ at_dot name stem bits row cut place h =
     let it = has_dot name row h in
     let there = ap (position_or_len (λ b. b == 46)) it.1 ∙ dot_place it.0 (codes "w.aq.rl") in
     let same = same_front stem (atomic_name it.0) (46 ∷ bits) (46 ∷ codes "w.aq.rl") (sym place ∙ there) (sym cut ∙ it.1) in
-    (it.0, same.0, behind 46 46 bits (codes "w.aq.rl") same.1)
+    (it.0, same.0, same_rest 46 46 bits (codes "w.aq.rl") same.1)

@@ -26,7 +26,7 @@ behind_letter one other e = cc
 no_letter_digit : (text : List ℕ) (letter : ℕ) (digits : List ℕ) (number : ℕ) → text ≡ 48 ∷ letter ∷ digits
     → is_ascii_digit letter ≡ false → SpellsDigits 10 text number → ⊥
 no_letter_digit text letter digits number e no_digit h =
-    let all = subst (All (λ d. is_digit 10 d ≡ true)) e h.digits_all in not_true _ no_digit (second_of_all _ _ _ _ all)
+    let all = subst (All (λ d. is_digit 10 d ≡ true)) e h.digits_all in not_true (is_ascii_digit letter) no_digit (second_of_all (λ d. is_digit 10 d ≡ true) 48 letter digits all)
 
 no_hexadecimal : (text digits : List ℕ) (number : ℕ) → IsHexadecimal text digits → SpellsDigits 10 text number → ⊥
 no_hexadecimal text digits number (inl e) h = no_letter_digit text 120 digits number e refl h
@@ -80,8 +80,8 @@ goes_on_once text from one other here there a b = by_order (cases_order one othe
   where
     by_order : (one ≡ other) ⊎ ((one < other) ⊎ (other < one)) → one ≡ other
     by_order (inl same) = same
-    by_order (inr (inl less)) = absurd (not_true _ a.ends (b.each one here less))
-    by_order (inr (inr more)) = absurd (not_true _ b.ends (a.each other there more))
+    by_order (inr (inl less)) = absurd (not_true (is_of_name (slice_index text one)) a.ends (b.each one here less))
+    by_order (inr (inr more)) = absurd (not_true (is_of_name (slice_index text other)) b.ends (a.each other there more))
 
 -- the first byte of a part
 pub first_of_part : (text : List ℕ) (from to : ℕ) → from < to → slice_index (slice_range text from to) 0 ≡ slice_index text from
@@ -117,8 +117,7 @@ sign_at : (text : List ℕ) (from to : ℕ) (mark : Mark) → from < to → IsSi
     × (is_ascii_whitespace (slice_index text from) ≡ false)
 sign_at text from to mark some is =
     let of = sign_is (slice_range text from to) mark is in
-    let first = first_of_part text from to some in
-    (
+    let first = first_of_part text from to some in (
       sym (ap begins_name first) ∙ of.no_name,
       sym (ap is_ascii_digit first) ∙ of.no_digit,
       sym (ap is_ascii_whitespace first) ∙ of.dark,
@@ -150,22 +149,22 @@ word_once text start end end' one other some some' inside inside' (inl a) (inl b
     (name_once (slice_range text start end') one other
     (subst (λ (n : ℕ). IsNameToken (slice_range text start n) one) same a.token) b.token)
 word_once text start end end' one other some some' inside inside' (inl a) (inr (inl b)) =
-    absurd (letter_no_digit _ a.begins b.begins)
+    absurd (letter_no_digit (slice_index text start) a.begins b.begins)
 word_once text start end end' one other some some' inside inside' (inl a) (inr (inr b)) =
-    absurd (not_true _ (sign_at text start end' b.mark some' b.named).0 a.begins)
+    absurd (not_true (begins_name (slice_index text start)) (sign_at text start end' b.mark some' b.named).0 a.begins)
 word_once text start end end' one other some some' inside inside' (inr (inl a)) (inl b) =
-    absurd (letter_no_digit _ b.begins a.begins)
+    absurd (letter_no_digit (slice_index text start) b.begins a.begins)
 word_once text start end end' one other some some' inside inside' (inr (inl a)) (inr (inl b)) =
     let same = goes_on_once text start end end' (omega (arith, some)) (omega (arith, some')) a.whole b.whole in
     let spelled = subst (λ (n : ℕ). SpellsNumeral (slice_range text start n) a.number) same a.spelled.0 in
     same_parts start end end' one other same
     (a.is ∙ ap token.Number (numeral_once (slice_range text start end') a.number b.number spelled b.spelled.0) ∙ sym b.is)
 word_once text start end end' one other some some' inside inside' (inr (inl a)) (inr (inr b)) =
-    absurd (not_true _ (sign_at text start end' b.mark some' b.named).1 a.begins)
+    absurd (not_true (is_ascii_digit (slice_index text start)) (sign_at text start end' b.mark some' b.named).1 a.begins)
 word_once text start end end' one other some some' inside inside' (inr (inr a)) (inl b) =
-    absurd (not_true _ (sign_at text start end a.mark some a.named).0 b.begins)
+    absurd (not_true (begins_name (slice_index text start)) (sign_at text start end a.mark some a.named).0 b.begins)
 word_once text start end end' one other some some' inside inside' (inr (inr a)) (inr (inl b)) =
-    absurd (not_true _ (sign_at text start end a.mark some a.named).1 b.begins)
+    absurd (not_true (is_ascii_digit (slice_index text start)) (sign_at text start end a.mark some a.named).1 b.begins)
 word_once text start end end' one other some some' inside inside' (inr (inr a)) (inr (inr b)) =
     let here = a.longest b.mark end' inside' b.named in
     let there = b.longest a.mark end inside a.named in
@@ -238,7 +237,7 @@ is_ascii_name name each i = by_order (cases_order i (length name))
 pub name_there : (text : List ℕ) (at end : ℕ) (it : Token) → begins_name (slice_index text at) ≡ true
     → GoesOn text (at + 1) end → IsNameToken (slice_range text at end) it → IsWordOf text (made at end it)
 name_there text at end it begins whole is =
-    inl (record { begins = begins; whole = with_first text at end (letter_goes_on _ begins) whole; token = is })
+    inl (record { begins = begins; whole = with_first text at end (letter_goes_on (slice_index text at) begins) whole; token = is })
 
 pub number_there : (text : List ℕ) (at end number : ℕ) → is_ascii_digit (slice_index text at) ≡ true
     → GoesOn text (at + 1) end → SpellsNumeral (slice_range text at end) number → number < 2 ^ 32
@@ -246,7 +245,7 @@ pub number_there : (text : List ℕ) (at end number : ℕ) → is_ascii_digit (s
 number_there text at end number begins whole spelled small =
     inr (inl (record {
       begins = begins;
-      whole = with_first text at end (digit_goes_on _ begins) whole;
+      whole = with_first text at end (digit_goes_on (slice_index text at) begins) whole;
       number = number;
       is = refl;
       spelled = (spelled, small);
@@ -264,10 +263,10 @@ pub no_number_there : (text : List ℕ) (at end : ℕ) (word : Word) → is_asci
     → ((number : ℕ) → number < 2 ^ 32 → SpellsNumeral (slice_range text at end) number → ⊥) → IsWordAt text at word → ⊥
 no_number_there text at end word begins some whole none w =
     by_kind w.is (subst (λ (n : ℕ). is_ascii_digit (slice_index text n) ≡ true) (sym w.begins) begins)
-    (subst (λ (n : ℕ). GoesOn text n end) (sym w.begins) (with_first text at end (digit_goes_on _ begins) whole))
+    (subst (λ (n : ℕ). GoesOn text n end) (sym w.begins) (with_first text at end (digit_goes_on (slice_index text at) begins) whole))
   where
     by_kind : IsWordOf text word → is_ascii_digit (slice_index text word.start) ≡ true → GoesOn text word.start end → ⊥
-    by_kind (inl h) digit goes = letter_no_digit _ h.begins digit
+    by_kind (inl h) digit goes = letter_no_digit (slice_index text word.start) h.begins digit
     by_kind (inr (inl h)) digit goes =
         let low = w.some in
         let from = w.begins in
@@ -275,7 +274,7 @@ no_number_there text at end word begins some whole none w =
         none h.number h.spelled.1
         (subst (λ (n : ℕ). SpellsNumeral (slice_range text n end) h.number) w.begins
         (subst (λ (n : ℕ). SpellsNumeral (slice_range text word.start n) h.number) same h.spelled.0))
-    by_kind (inr (inr h)) digit goes = not_true _ (sign_at text word.start word.end h.mark w.some h.named).1 digit
+    by_kind (inr (inr h)) digit goes = not_true (is_ascii_digit (slice_index text word.start)) (sign_at text word.start word.end h.mark w.some h.named).1 digit
 
 pub no_sign_there : (text : List ℕ) (at : ℕ) (word : Word) → begins_name (slice_index text at) ≡ false
     → is_ascii_digit (slice_index text at) ≡ false
@@ -287,8 +286,8 @@ no_sign_there text at word no_name no_digit none w =
   where
     by_kind : IsWordOf text word → begins_name (slice_index text word.start) ≡ false
         → is_ascii_digit (slice_index text word.start) ≡ false → ⊥
-    by_kind (inl h) no_letter no_number = not_true _ no_letter h.begins
-    by_kind (inr (inl h)) no_letter no_number = not_true _ no_number h.begins
+    by_kind (inl h) no_letter no_number = not_true (begins_name (slice_index text word.start)) no_letter h.begins
+    by_kind (inr (inl h)) no_letter no_number = not_true (is_ascii_digit (slice_index text word.start)) no_number h.begins
     by_kind (inr (inr h)) no_letter no_number =
         none h.mark word.end w.inside (subst (λ (n : ℕ). IsSignNamed (slice_range text n word.end) h.mark) w.begins h.named)
 

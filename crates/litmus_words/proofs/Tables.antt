@@ -16,12 +16,12 @@ use Rattle.watched_outcomes.specs.declared.watch.Width.TheVariants as width_kind
 use Rattle.litmus_words.specs.Words.{HasTypeName, IsKeywordNamed, IsRegisterNamed, IsSignNamed, IsTypeNamed, begins_name}
 
 -- the first that has this name
-pub find : {A : Type 0} → List (List ℕ × A) → List ℕ → Option A
+unfoldable pub find : {A : Type 0} → List (List ℕ × A) → List ℕ → Option A
 find [] text = None
 find (row ∷ rows) text = if bytes_eq row.0 text then Some row.1 else find rows text
 
 -- whether all names pass a test
-pub each_name : {A : Type 0} → (List ℕ → Bool) → List (List ℕ × A) → Bool
+unfoldable pub each_name : {A : Type 0} → (List ℕ → Bool) → List (List ℕ × A) → Bool
 each_name test [] = true
 each_name test (row ∷ rows) = if test row.0 then each_name test rows else false
 

@@ -4,7 +4,13 @@ ghost use Rattle.std.specs.Prelude.{◌≡◌, IfNone, IfSome};
 ghost use Rattle.rv_text.specs.declared.mnemonic.{Mnemonic.Mnemonic as AnyRow};
 ghost use Rattle.litmus_words.specs.declared.mnemonic.Mnemonic.{Mnemonic as AnyMnemonic};
 ghost use Rattle.litmus_words.specs.Mnemonics.{
-  HasDotBetween, IsNamed, IsOtherBranch, IsOtherName, IsOfRow, IsRowNamed, is_taken,
+  HasDotBetween,
+  IsNamed,
+  IsOtherBranch,
+  IsOtherName,
+  IsOfRow,
+  IsRowNamed,
+  is_taken,
 };
 
 use rv_instr::{BranchOp, Ordering};

@@ -5,7 +5,12 @@ ghost use Rattle.std.specs.Fmt.{decimal};
 ghost use Rattle.litmus_tests.specs.declared.number_type.NumberType.{NumberType as AnyType};
 ghost use Rattle.litmus_words.specs.declared.word.Mark.{Mark as AnyMark};
 ghost use Rattle.litmus_words.specs.Words.{
-  is_of_name, IsKeywordNamed, IsNameToken, IsRegisterNamed, IsSignNamed, IsTypeNamed,
+  is_of_name,
+  IsKeywordNamed,
+  IsNameToken,
+  IsRegisterNamed,
+  IsSignNamed,
+  IsTypeNamed,
 };
 
 use crate::mnemonic::mnemonic_named;

@@ -3,7 +3,12 @@
 ghost use Rattle.std.specs.Prelude.{◌≡◌, ◌≤◌, ◌<◌, ◌+◌, ◌*◌, ◌^◌, ℕ, true, false, List};
 ghost use Rattle.std.specs.Prelude.{All, IfErr, IfNone, IfOk, IfSome};
 ghost use Rattle.litmus_words.specs.Numbers.{
-  IsHexadecimal, SpellsDigits, SpellsNumeral, digit_value, is_digit, number_after,
+  IsHexadecimal,
+  SpellsDigits,
+  SpellsNumeral,
+  digit_value,
+  is_digit,
+  number_after,
 };
 
 use crate::refused::Fault;

@@ -1,6 +1,7 @@
 use Rattle.std.proofs.Common.{arith, refl}
 use Rattle.std.proofs.lemmas.List.Elements.{All-nil, All-push}
 use Rattle.litmus_words.specs.Words.{IsWordOf}
+use Rattle.litmus_words.proofs.Ending.{closed_there}
 use Rattle.litmus_words.proofs.Standing.{all_found, first_end, first_word, goes_behind, last_word, moved, next_word, none_left, one_less}
 use Rattle.litmus_words.proofs.lexer.words_of.Goals as goal
 
@@ -59,3 +60,7 @@ returns-in_err-at-2-clause-only c = λ all stand.
     c.loop-at.invariant.over c.in_ok-word.ensures.begins c.in_ok-word.ensures.start c.in_ok-word.ensures.inside
     c.in_ok-word.ensures.spelled (c.loop-at.invariant.only all stand) in
     absurd (c.in_err-at-2.ensures.only next.0 next.1 next.2)
+
+pub word_at-requires-clause-no_comment : goal.word_at-requires-clause-no_comment
+word_at-requires-clause-no_comment c =
+    closed_there c.args.text.now c.loop-at.at c.loop-at-test.true c.loop-at.invariant.over
