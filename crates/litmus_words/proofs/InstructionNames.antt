@@ -1,6 +1,6 @@
 -- Each name is that of one instruction: a search of all names finds it.
 use Rattle.std.proofs.Common.{◌≡◌, ◌⊎◌, ℕ, Bool, true, false, if◌then◌else◌, List, [], ◌∷◌, ◌++◌, Option, Some, None}
-use Rattle.std.proofs.Common.{refl, sym, ap, ◌∙◌, inl, inr}
+use Rattle.std.proofs.Common.{refl, sym, ap, subst, ◌∙◌, inl, inr}
 use Rattle.std.proofs.lemmas.Bool.{false≢true}
 use Rattle.std.specs.{Prelude.codes, Prelude.map, List.flat_map}
 use Rattle.rv_word.specs.declared.amo_kind.AmoKind.TheVariants as kinds
@@ -201,3 +201,22 @@ instruction_once text m other (inr (inl a)) (inr (inr b)) = absurd (apart text m
 instruction_once text m other (inr (inr a)) (inl b) = absurd (apart text other m (other_found text other b) a)
 instruction_once text m other (inr (inr a)) (inr (inl b)) = absurd (apart text other m (branch_found text other b) a)
 instruction_once text m other (inr (inr a)) (inr (inr b)) = same_row text m other a b
+
+-- what the row of a name isn't, the name isn't
+pub no_instruction : (text : List ℕ) (row : Row) → ((m : Mnemonic) → IsOtherName text m → ⊥)
+    → ((m : Mnemonic) → IsOtherBranch text m → ⊥) → IsRowNamed text row → ((m : Mnemonic) → IsOfRow row m → ⊥)
+    → (m : Mnemonic) → IsNamed text m → ⊥
+no_instruction text row none none' named none'' m (inl a) = none m a
+no_instruction text row none none' named none'' m (inr (inl b)) = none' m b
+no_instruction text row none none' named none'' m (inr (inr h)) =
+    none'' m (subst (λ (r : Row). IsOfRow r m) (sym (row_once text row h.row named h.named)) h.is)
+
+pub no_row_named : (text : List ℕ) → ((m : Mnemonic) → IsOtherName text m → ⊥)
+    → ((m : Mnemonic) → IsOtherBranch text m → ⊥) → ((row : Row) → IsRowNamed text row → ⊥)
+    → (m : Mnemonic) → IsNamed text m → ⊥
+no_row_named text none none' none'' m (inl a) = none m a
+no_row_named text none none' none'' m (inr (inl b)) = none' m b
+no_row_named text none none' none'' m (inr (inr h)) = none'' h.row h.named
+
+pub of_a_row : (text : List ℕ) (row : Row) → IsRowNamed text row → (m : Mnemonic) → IsOfRow row m → IsNamed text m
+of_a_row text row named m is = inr (inr (record { row = row; named = named; is = is }))

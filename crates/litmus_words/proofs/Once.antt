@@ -1,8 +1,8 @@
 -- At a byte of a text one word begins at most.
 use Rattle.std.proofs.Common.{◌≡◌, ◌⊎◌, ℕ, ◌+◌, ◌-◌, ◌^◌, ◌<◌, ◌≤◌, Bool, true, false, ◌||◌, ◌==◌, List, [], ◌∷◌, length, take, drop}
-use Rattle.std.proofs.Common.{get_or, refl, sym, ap, ◌∙◌, subst, inl, inr, arith, All, length-drop}
+use Rattle.std.proofs.Common.{get_or, Option, Some, None, Result, Ok, Err, refl, sym, ap, ◌∙◌, subst, inl, inr, arith, All, length-drop}
 use Rattle.std.proofs.lemmas.{Bool.Decides.nat_tests, Bool.cases_order, Bool.true≢false, Fmt.decimal_injective, List.Elements.All-head, List.Elements.All-tail, List.get_or-drop, List.get_or-take, List.length-take-le}
-use Rattle.std.specs.{Prelude.slice_index, Prelude.slice_range, Str.IsAscii}
+use Rattle.std.specs.{Prelude.slice_index, Prelude.slice_range, Prelude.IfErr, Prelude.IfNone, Str.IsAscii}
 use Rattle.std.specs.Char.{is_ascii_alphabetic, is_ascii_alphanumeric, is_ascii_digit, is_ascii_whitespace}
 use Rattle.std.specs.Fmt.{decimal}
 use Rattle.litmus_words.specs.declared.word.{Word.Word, Mark.Mark}
@@ -333,3 +333,18 @@ pub no_sign : (text : List ℕ) (at end : ℕ) (mark : Mark)
 no_sign text at end mark none none' none'' inside is =
     let most = shorter_by_one text at 0 end mark none'' inside is (under_two text at end mark none none' inside is) in
     let some = (within_three text at end mark inside is).0 in omega (arith, most, some)
+
+-- what follows from what a clause says where there is none, or a refusal
+pub if_none_then : {X : Type 0} (r : Option X) {P Q : Type 0} → IfNone r P → (P → Q) → IfNone r Q
+if_none_then None h follows = follows h
+if_none_then (Some x) h follows = tt
+
+pub if_err_then : {X E : Type 0} (r : Result X E) {P Q : E → Type 0} → IfErr r P → ((e : E) → P e → Q e) → IfErr r Q
+if_err_then (Ok x) h follows = tt
+if_err_then (Err e) h follows = follows e h
+
+-- a number that is spelled in neither way
+pub no_numeral : (text : List ℕ) → ((number : ℕ) → number < 2 ^ 32 → SpellsDigits 10 text number → ⊥)
+    → ((digits : List ℕ) → IsHexadecimal text digits → ⊥) → (number : ℕ) → number < 2 ^ 32 → SpellsNumeral text number → ⊥
+no_numeral text none none' number small (inl h) = none number small h
+no_numeral text none none' number small (inr (digits, is, h)) = none' digits is

@@ -47,7 +47,7 @@ pub returns-in_err-at-clause-only : goal.returns-in_err-at-clause-only
 returns-in_err-at-clause-only c = λ to gap end.
     let behind = behind_comment c.args.text.now c.loop-at.at to c.loop-at-test.true
     (c.opens_at.ensures.opens c.if-opens_at.true) end (c.loop-at.invariant.only to gap end) in
-    c.in_err-at.ensures.only behind.0 behind.1
+    absurd (c.in_err-at.ensures.only behind.0 behind.1)
 
 pub returns-clause-over : goal.returns-clause-over
 returns-clause-over c = inl (omega (arith, c.loop-at-test.false, c.loop-at.invariant.inside))
