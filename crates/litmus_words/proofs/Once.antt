@@ -1,9 +1,9 @@
 -- At a byte of a text one word begins at most.
-use Rattle.std.proofs.Common.{◌≡◌, ◌⊎◌, ℕ, ◌+◌, ◌-◌, ◌^◌, ◌<◌, ◌≤◌, Bool, true, false, ◌||◌, ◌==◌, List, [], ◌∷◌, length, take, drop}
-use Rattle.std.proofs.Common.{get_or, Option, Some, None, Result, Ok, Err, refl, sym, ap, ◌∙◌, subst, inl, inr, arith, All, length-drop}
-use Rattle.std.proofs.lemmas.{Bool.Decides.nat_tests, Bool.cases_order, Bool.true≢false, Fmt.decimal_injective, List.Elements.All-head, List.Elements.All-tail, List.get_or-drop, List.get_or-take, List.length-take-le}
+use Rattle.std.proofs.Common.{◌≡◌, ◌⊎◌, ℕ, ◌+◌, ◌-◌, ◌^◌, ◌<◌, ◌≤◌, true, false, List, ◌∷◌, length, drop}
+use Rattle.std.proofs.Common.{Option, Some, None, Result, Ok, Err, refl, sym, ap, ◌∙◌, subst, inl, inr, arith, All, length-drop}
+use Rattle.std.proofs.lemmas.{Bool.Decides.nat_tests, Bool.cases_order, Fmt.decimal_injective, List.Elements.All-head, List.Elements.All-tail, List.get_or-drop, List.get_or-take, List.length-take-le}
 use Rattle.std.specs.{Prelude.slice_index, Prelude.slice_range, Prelude.IfErr, Prelude.IfNone, Str.IsAscii}
-use Rattle.std.specs.Char.{is_ascii_alphabetic, is_ascii_alphanumeric, is_ascii_digit, is_ascii_whitespace}
+use Rattle.std.specs.Char.{is_ascii_digit, is_ascii_whitespace}
 use Rattle.std.specs.Fmt.{decimal}
 use Rattle.litmus_words.specs.declared.word.{Word.Word, Mark.Mark}
 use Rattle.litmus_words.specs.declared.word.Token.{Token}
@@ -11,10 +11,10 @@ use Rattle.litmus_words.specs.declared.word.Token.TheVariants as token
 use Rattle.litmus_words.specs.Comments.{Opens}
 use Rattle.litmus_words.specs.Gaps.{IsGapEnd}
 use Rattle.litmus_words.specs.Numbers.{SpellsNumeral, SpellsDigits, IsHexadecimal, is_digit, number_after}
-use Rattle.litmus_words.specs.Words.{GoesOn, IsNameIn, IsNameToken, IsNumberIn, IsSignIn, IsSignNamed, IsWordAt, IsWordOf}
+use Rattle.litmus_words.specs.Words.{GoesOn, IsNameToken, IsSignNamed, IsWordAt, IsWordOf}
 use Rattle.litmus_words.specs.Words.{SpellsToken, begins_name, is_of_name, rank}
 use Rattle.litmus_words.proofs.{Ending.not_true, Ending.past_end, InstructionNames.instruction_once}
-use Rattle.litmus_words.proofs.Tables.{IsOfSign, keyword_once, register_once, sign_is, sign_once, type_once}
+use Rattle.litmus_words.proofs.Tables.{keyword_once, register_once, sign_is, sign_once, type_once}
 
 -- numbers
 second_of_all : (P : ℕ → Type 0) (x y : ℕ) (xs : List ℕ) → All P (x ∷ y ∷ xs) → P y

@@ -1,4 +1,4 @@
-use Rattle.litmus_words.proofs.Once.{no_sign_there, sign_there}
+use Rattle.litmus_words.proofs.Once.{sign_there}
 use Rattle.litmus_words.proofs.lexer.word_at.Goals as goal
 
 pub returns-in-Some-clause-spelled : goal.returns-in-Some-clause-spelled
