@@ -1,3 +1,5 @@
+pub mod Answered
+pub mod Comments
 pub mod Cuts
 pub mod Gaps
 pub mod Mnemonics
