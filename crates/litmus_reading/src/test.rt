@@ -1,8 +1,9 @@
 //! A whole test.
 
-ghost use Rattle.std.specs.Prelude.{◌≤◌, length, IfOk, IfErr};
+ghost use Rattle.std.specs.Prelude.{◌≡◌, ◌≤◌, length, IfOk, IfErr};
 ghost use Rattle.litmus_tests.specs.WellFormed.{IsWellFormed};
 ghost use Rattle.litmus_words.specs.Places.{IsRefusedIn};
+ghost use Rattle.litmus_reading.specs.Texts.{AreLocations, AreThreads, IsBraced, IsOfWords, IsTextOf};
 
 use crate::condition::Asked;
 use crate::head::{Head, read_head};
@@ -11,12 +12,12 @@ use crate::observed::observed_of;
 use crate::question::read_question;
 use crate::rows::{read_harts, rows_of};
 use crate::sound::makes_sense;
-use crate::start::{Start, read_start};
+use crate::start::{Entry, check_harts, initial_of, read_start, starts_of};
 use crate::thread::read_steps;
 use litmus_tests::{LitmusTest, Location, Thread};
 use litmus_words::{
-    Fault, MOST_BYTES, Mark, ReadingRefused, Shown, Stop, Word, bytes_of, cut, name_end, place_of,
-    start_of, words_of,
+    Fault, MOST_BYTES, Mark, ReadingRefused, Shown, Stop, Word, bytes_of, cut, is_mark, name_end,
+    next, place_of, start_of, words_of,
 };
 use std::alloc::Global;
 use std::str;
@@ -25,6 +26,7 @@ use std::str;
 /// reason than want of memory is refused at a place of the text.
 pub fn read_litmus(text: &[u8], alloc: Global) -> Result<LitmusTest, ReadingRefused>
     ensures sound { IfOk result IsWellFormed }
+    ensures read { IfOk result (IsTextOf text.now) }
     ensures refused { IfErr result (IsRefusedIn text.now) }
 {
     match read_test(text, alloc) {
@@ -57,7 +59,8 @@ pub(crate) fn shown_at(text: &[u8], at: usize, fault: Fault) -> Shown
 }
 
 fn read_test(text: &[u8], alloc: Global) -> Result<LitmusTest, Stop>
-    ensures { IfOk result IsWellFormed }
+    ensures sound { IfOk result IsWellFormed }
+    ensures read { IfOk result (IsTextOf text.now) }
 {
     if text.len() > MOST_BYTES {
         return Err(Stop::at(MOST_BYTES, Fault::TooLong));
@@ -75,11 +78,13 @@ fn read_test(text: &[u8], alloc: Global) -> Result<LitmusTest, Stop>
 }
 
 /// The words in the braces, and behind them.
-pub(crate) fn braces(words: &[Word], end: usize) -> Result<(&[Word], &[Word]), Stop> {
-    if words.is_empty() {
-        return Err(Stop::at(end, Fault::Unfinished));
+pub(crate) fn braces(words: &[Word], end: usize) -> Result<(&[Word], &[Word]), Stop>
+    ensures { IfOk result (λ p. IsBraced words.now p.0.now p.1.now) }
+{
+    let (first, words) = next(words, end)?;
+    if !is_mark(first, Mark::LeftBrace) {
+        return Err(Stop::at(first.start, Fault::NotOfSubset));
     }
-    let words = &words[1..];
     let (inside, behind) = cut(words, Mark::RightBrace);
     if inside.len() == words.len() {
         return Err(Stop::at(end, Fault::Unfinished));
@@ -96,19 +101,20 @@ fn read_words(
     alloc: Global,
 ) -> Result<LitmusTest, Stop>
     requires { (head.name_start ≤ head.name_end) × (head.name_end ≤ length text.now) }
+    ensures { IfOk result (IsOfWords text.now names.now words.now) }
 {
     let end = text.len();
     let (inside, behind) = braces(words, end)?;
-    let start = read_start(inside, end, alloc)?;
+    let entries = read_start(inside, end, alloc)?;
     let (harts, behind) = read_harts(behind, end)?;
-    start.names_harts(harts)?;
-    let (rows, behind) = rows_of(behind, harts, end)?;
-    let question = read_question(&Asked { harts, end, alloc }, behind)?;
-    let observed = observed_of(&question, harts, names.len(), start_of(behind, end), alloc)?;
+    check_harts(entries.as_slice(), harts)?;
+    let (rows, asked) = rows_of(behind, harts, end)?;
+    let question = read_question(&Asked { harts, end, alloc }, asked)?;
+    let observed = observed_of(&question, harts, names.len(), start_of(asked, end), alloc)?;
     Ok(LitmusTest {
         name: Vec::from_slice(alloc, &text[head.name_start..head.name_end])?,
-        locations: read_locations(text, names, &start, alloc)?,
-        threads: read_threads(text, rows, harts, &start, alloc)?,
+        locations: read_locations(text, names, entries.as_slice(), alloc)?,
+        threads: read_threads(text, rows, harts, entries.as_slice(), alloc)?,
         quantifier: question.quantifier,
         condition: question.condition,
         filter: question.filter,
@@ -120,14 +126,17 @@ fn read_words(
 fn read_locations(
     text: &[u8],
     names: &[Word],
-    start: &Start,
+    entries: &[Entry],
     alloc: Global,
-) -> Result<Vec<Location>, Stop> {
+) -> Result<Vec<Location>, Stop>
+    ensures { IfOk result (λ locations.
+        AreLocations text.now entries.now 0 names.now locations.items) }
+{
     let mut locations = Vec::new(alloc);
-    for (index, name) in names.iter().enumerate() {
+    for index in 0..names.len() {
         locations.push(Location {
-            name: Vec::from_slice(alloc, bytes_of(text, *name))?,
-            initial: start.initial(index),
+            name: Vec::from_slice(alloc, bytes_of(text, names[index]))?,
+            initial: initial_of(entries, index),
         })?;
     }
     Ok(locations)
@@ -138,13 +147,16 @@ fn read_threads(
     text: &[u8],
     rows: &[Word],
     harts: u8,
-    start: &Start,
+    entries: &[Entry],
     alloc: Global,
-) -> Result<Vec<Thread>, Stop> {
+) -> Result<Vec<Thread>, Stop>
+    ensures count { IfOk result (λ threads. length threads.items ≡ harts) }
+    ensures are { IfOk result (λ threads. AreThreads text.now rows.now entries.now 0 threads.items) }
+{
     let mut threads = Vec::new(alloc);
     for hart in 0..harts {
         threads.push(Thread {
-            starts: start.of_hart(hart, alloc)?,
+            starts: starts_of(entries, hart, alloc)?,
             steps: read_steps(text, rows, hart, alloc)?,
         })?;
     }
