@@ -1,2 +1,10 @@
+pub mod Cells
+pub mod Columns
 pub mod Conditions
+pub mod Declaring
+pub mod Entries
+pub mod Listing
+pub mod Naming
+pub mod Remembered
 pub mod Told
+pub mod Wholes

@@ -16,12 +16,13 @@
 //! belong, what the start declares, and where that stands, what is observed, and which fault is told where.
 //!
 //! Read in this order, behind `litmus_words`: `head` (what stands before the braces), `declarations` (of which types
-//! locations are), `locations` (which there are, and where), `fitting` (what fits in a type), `start`, `rows` (of the
-//! table of harts), `operands`, `fences`, `instruction`, `thread` (what a hart does), `condition`, `question`,
+//! locations are), `locations` (which there are, and where), `fitting` (what fits in a type), `start`, `memory` (what
+//! the words of the locations hold), `rows` (of the table of harts), `operands`, `fences`, `instruction`, `thread` (what a hart does), `condition`, `question`,
 //! `observed`; `sound` (whether a test makes sense); `test`; `faults` (what else is wrong with a text).
 #![tactic(auto)]
 
 mod condition;
+mod contents;
 mod declarations;
 mod faults;
 mod fences;
@@ -29,6 +30,7 @@ mod fitting;
 mod head;
 mod instruction;
 mod locations;
+mod memory;
 mod observed;
 mod operands;
 mod question;

@@ -49,5 +49,5 @@ fn add_named(
 fn is_named(question: &Question, one: Observed) -> bool {
     question.terms.as_slice().contains(&one)
         || question.filtered.as_slice().contains(&one)
-        || question.listed.as_slice().contains(&one)
+        || question.listed.observed.as_slice().contains(&one)
 }
