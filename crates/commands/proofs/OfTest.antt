@@ -53,13 +53,14 @@ module _ (litmus : LitmusCommand) (text file : List ℕ) (settings : Settings)
   test_output = (settings, configured, tt)
 
   -- A flush changes nothing of what it comes to.
-  pub test_flushed : (old mid new : Option (List ℕ)) (status : ℕ) → LitmusComesTo litmus old mid status
+  pub test_flushed : (old mid new : Option (List ℕ)) (status : ℕ) → LitmusComesTo file litmus old mid status
       → Keeps mid new → LitmusLineComesTo litmus (Ok text) (Ok file) old new status
   test_flushed old mid new status is flushed = (
     settings,
     configured,
     record {
       test = is.test;
+      is_text = is.is_text;
       well_formed = is.well_formed;
       comes = elim is.comes [
         | inl all ↦ inl (record {

@@ -113,7 +113,7 @@ IsLitmusLineRefusal litmus config test reason =
 -- it. Of the settings nothing else is asked.
 abbrev pub LitmusLineComesTo : LitmusCommand → Read → Read → Option (List ℕ) → Option (List ℕ) → ℕ → Type 0
 LitmusLineComesTo litmus config test old new status =
-    OfSettings config (λ settings. OfFile test (λ text. LitmusComesTo litmus old new status))
+    OfSettings config (λ settings. OfFile test (λ text. LitmusComesTo text litmus old new status))
 
 -- When each refusal comes of a migration: the configuration is looked at first, then the trace. A file that
 -- can't be read is refused where it is looked at.

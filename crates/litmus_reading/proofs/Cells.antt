@@ -89,20 +89,21 @@ onto_length : (word : Word) (parts : List (List Word)) → 0 < length parts
 onto_length word [] some = absurd (omega (arith, some))
 onto_length word (part ∷ parts) some = refl
 
+part_more : (word : Word) (parts : List (List Word)) (b : Bool) → 0 < length parts
+    → 0 < length (if b then [] ∷ parts else onto_first word parts)
+part_more word parts true some = omega arith
+part_more word parts false some = let same = onto_length word parts some in omega (arith, some, same)
+
 some_part : (p : Token → Bool) (words : List Word) → 0 < length (parted_by p words)
 some_part p [] = omega arith
-some_part p (word ∷ words) = of_test (p word.token)
-  where
-  of_test : (b : Bool) → 0 < length (if b then [] ∷ parted_by p words else onto_first word (parted_by p words))
-  of_test true = omega arith
-  of_test false = let some = some_part p words in let same = onto_length word (parted_by p words) some in
-      omega (arith, some, same)
+some_part p (word ∷ words) = part_more word (parted_by p words) (p word.token) (some_part p words)
 
 pub bar_column : (word : Word) (words : List Word) → word.token ≡ mark_token mark.Bar
     → length (parted_by is_bar (word ∷ words)) ≡ length (parted_by is_bar words) + 1
 bar_column word words is =
+    let plus : length (([] {A = Word}) ∷ parted_by is_bar words) ≡ length (parted_by is_bar words) + 1 = omega arith in
     ap (λ (b : Bool). length (if b then [] ∷ parted_by is_bar words else onto_first word (parted_by is_bar words)))
-    (ap is_bar is) ∙ omega arith
+    (ap is_bar is) ∙ plus
 
 pub same_column : (word : Word) (words : List Word) → word.token ≢ mark_token mark.Bar
     → length (parted_by is_bar (word ∷ words)) ≡ length (parted_by is_bar words)

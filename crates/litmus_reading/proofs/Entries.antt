@@ -18,7 +18,7 @@ use Rattle.litmus_reading.specs.declared.start.Entry.{Entry}
 use Rattle.litmus_reading.specs.declared.start.Entry.TheVariants.{Register, Location}
 use Rattle.litmus_reading.specs.Names.{elements_of}
 use Rattle.litmus_reading.specs.Starts.{AddedTaken, AreEntries, ContentsTaken, CountTaken, ElementsTaken, EntryTaken, GivenTaken, NameTaken, RegisterTaken}
-use Rattle.litmus_reading.specs.Starts.{none, last, more, placed, SpellsFilled, SpellsArray, SpellsElements}
+use Rattle.litmus_reading.specs.Starts.{entries_none, entries_last, entries_more, placed, SpellsFilled, SpellsArray, SpellsElements}
 use Rattle.litmus_reading.specs.Starts.{start_in, initial_in, start_at, starts_from}
 
 pub takes_nothing : (words : List Word) → Takes words [] words
@@ -119,7 +119,7 @@ pub counted : (words a b rest : List Word) (count : ℕ) → (count ≡ 0 → �
     → Takes a (Number count ∷ []) b → Takes b (Mark mark.RightBracket ∷ []) rest → CountTaken words rest
 counted words a b rest count some left number right = record {
   text = index_tokens count;
-  spells = (count, pos_of_ne-zero some, refl);
+  spells = (count, let more : 0 < count = pos_of_ne-zero some in omega (arith, more), refl);
   takes = one_behind_another words a rest (Mark mark.LeftBracket ∷ [])
       (Number count ∷ Mark mark.RightBracket ∷ []) left
       (one_behind_another a b rest (Number count ∷ []) (Mark mark.RightBracket ∷ []) number right);
@@ -221,11 +221,12 @@ reads_more declared words rest behind next before now after count index held so_
 }
 
 pub reads_last : (declared : Declared) (words rest behind end : List Word) (before now after : List Entry)
-    (count index : ℕ) (held : Value) → count < elements_of declared → ReadsOn declared words before now count rest
+    (count most index : ℕ) (held : Value) → most ≡ elements_of declared → count < most
+    → ReadsOn declared words before now count rest
     → ValueTaken rest held behind → Takes behind (Mark mark.RightBrace ∷ []) end → index ≡ declared.first + count
     → after ≡ now ++ Location (record { location = index; value = held }) ∷ []
     → ElementsTaken declared words before after end
-reads_last declared words rest behind end before now after count index held inside so_far v closes at is =
+reads_last declared words rest behind end before now after count most index held last inside so_far v closes at is =
     let all = so_far.on (held ∷ []) (v.text ++ Mark mark.RightBrace ∷ []) end
     (v.text, Mark mark.RightBrace ∷ [], v.spells, refl, inl (refl, refl))
     (one_behind_another rest behind end v.text (Mark mark.RightBrace ∷ []) v.takes closes) in
@@ -235,7 +236,8 @@ reads_last declared words rest behind end before now after count index held insi
       text = all.0;
       values = so_far.values ++ held ∷ [];
       spells = all.1;
-      few = omega (arith, many, inside);
+      few = subst (λ (n : ℕ). n ≤ elements_of declared) (sym many)
+          (subst (λ (n : ℕ). count + 1 ≤ n) last (omega (arith, inside)));
       added = added_more declared before now after so_far.values count index held so_far.many so_far.added at is;
       takes = all.2;
     }
@@ -273,7 +275,7 @@ next_entry all rest behind next before after so_far taken end others are =
     (so_far (taken.entries ++ others)
     (subst (AreEntries before (taken.entries ++ others))
     (ap (λ (t : List Token). taken.text ++ t) (sym end.spelled) ∙ sym taken.takes.spelled)
-    (more before taken.entries others taken.text (tokens next) taken.spells
+    (entries_more before taken.entries others taken.text (tokens next) taken.spells
     (subst (λ (t : List Entry). AreEntries t others (tokens next)) taken.added are))))
 
 empty : (words : List Word) → length words ≡ 0 → tokens words ≡ []
@@ -289,14 +291,14 @@ last_entry all rest behind before after so_far taken nothing =
     (subst (AreEntries before taken.entries)
     (sym (append-nil taken.text) ∙ ap (λ (t : List Token). taken.text ++ t) (sym (empty behind nothing))
     ∙ sym taken.takes.spelled)
-    (last before taken.entries taken.text taken.spells)))
+    (entries_last before taken.entries taken.text taken.spells)))
 
 pub no_entry : (all : List Token) (rest : List Word) (before : List Entry)
     → ((others : List Entry) → AreEntries before others (tokens rest) → AreEntries [] (before ++ others) all)
     → length rest ≡ 0 → AreEntries [] before all
 no_entry all rest before so_far nothing =
     subst (λ (t : List Entry). AreEntries [] t all) (append-nil before)
-    (so_far [] (subst (AreEntries before []) (sym (empty rest nothing)) (none before)))
+    (so_far [] (subst (AreEntries before []) (sym (empty rest nothing)) (entries_none before)))
 
 -- what an entry doesn't speak of, those behind it tell
 passes_over : (b : Bool) (held : Value) (rest : Option Value) → b ≡ false

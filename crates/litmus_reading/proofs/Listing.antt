@@ -10,7 +10,7 @@ use Rattle.litmus_words.specs.Parts.{ObservedTaken}
 use Rattle.litmus_words.specs.Tokens.{Takes}
 use Rattle.litmus_words.proofs.Taking.{one_behind_another}
 use Rattle.litmus_reading.specs.Names.{elements_of}
-use Rattle.litmus_reading.specs.Questions.{elements_from, none, last, more, ItemTaken, ListedTaken, ListTaken, WholeTaken}
+use Rattle.litmus_reading.specs.Questions.{elements_from, listed_none, listed_last, listed_more, ItemTaken, ListedTaken, ListTaken, WholeTaken}
 
 -- one item
 pub one_taken : (words rest : List Word) (one : Observed) (before after : List Observed) (whole same : List ℕ)
@@ -64,7 +64,7 @@ item_more words rest behind next before after whole whole_after so_far taken sem
     (grown whole whole_after taken.whole w taken.added_whole)
     (so_far (taken.listed ++ others) (taken.whole ++ w) end (record {
       text = taken.text ++ Mark mark.Semicolon ∷ listed.text;
-      spells = more taken.text listed.text taken.listed others taken.whole w taken.spells listed.spells;
+      spells = listed_more taken.text listed.text taken.listed others taken.whole w taken.spells listed.spells;
       takes = subst (λ (t : List Token). Takes rest t end)
           (sym (append_assoc taken.text (Mark mark.Semicolon ∷ listed.text) (Mark mark.RightBracket ∷ [])))
           (one_behind_another rest behind end taken.text
@@ -84,7 +84,7 @@ item_last words rest behind end before after whole whole_after so_far taken clos
     (subst (λ (t : List ℕ). ListedTaken words (before ++ taken.listed) t end) (sym taken.added_whole)
     (so_far taken.listed taken.whole end (record {
       text = taken.text;
-      spells = last taken.text taken.listed taken.whole taken.spells;
+      spells = listed_last taken.text taken.listed taken.whole taken.spells;
       takes = one_behind_another rest behind end taken.text (Mark mark.RightBracket ∷ []) taken.takes closes;
     })))
 
@@ -95,7 +95,7 @@ pub no_item : (words rest end : List Word) (before : List Observed) (whole : Lis
 no_item words rest end before whole so_far closes =
     subst (λ (t : List Observed). ListedTaken words t whole end) (append-nil before)
     (subst (λ (t : List ℕ). ListedTaken words (before ++ []) t end) (append-nil whole)
-    (so_far [] [] end (record { text = []; spells = none; takes = closes })))
+    (so_far [] [] end (record { text = []; spells = listed_none; takes = closes })))
 
 -- nothing is listed before the first
 pub at_first : (words : List Word) (listed : List Observed) (whole : List ℕ) → listed ≡ [] → whole ≡ []
@@ -115,12 +115,13 @@ of_list words behind inside rest listed whole first second are = record {
 }
 
 -- the elements of an array, one more at each turn
-pub element_listed : (count first element index : ℕ) (all before after : List Observed) → element < count
+pub element_listed : (count last first element index : ℕ) (all before after : List Observed) → last ≡ count
+    → element < last
     → before ++ elements_from (count - element) (first + element) ≡ all → index ≡ first + element
     → after ≡ before ++ observed.Location index ∷ []
     → after ++ elements_from (count - (element + 1)) (first + (element + 1)) ≡ all
-element_listed count first element index all before after inside so_far at is =
-    let left : count - element ≡ suc (count - (element + 1)) = omega (arith, inside) in
+element_listed count last first element index all before after end inside so_far at is =
+    let left : count - element ≡ suc (count - (element + 1)) = omega (arith, end, inside) in
     let next : first + (element + 1) ≡ first + element + 1 = omega arith in
     ap (λ (t : List Observed). t ++ elements_from (count - (element + 1)) (first + (element + 1))) is
     ∙ append_assoc before (observed.Location index ∷ []) (elements_from (count - (element + 1)) (first + (element + 1)))
@@ -128,8 +129,8 @@ element_listed count first element index all before after inside so_far at is =
     ∙ ap (λ (n : ℕ). before ++ observed.Location (first + element) ∷ elements_from (count - (element + 1)) n) next
     ∙ ap (λ (n : ℕ). before ++ elements_from n (first + element)) (sym left) ∙ so_far
 
-pub all_elements_listed : (count first element : ℕ) (all before : List Observed) → count ≤ element
+pub all_elements_listed : (count last first element : ℕ) (all before : List Observed) → last ≡ count → last ≤ element
     → before ++ elements_from (count - element) (first + element) ≡ all → before ≡ all
-all_elements_listed count first element all before past so_far =
-    let none : count - element ≡ 0 = omega (arith, past) in
+all_elements_listed count last first element all before end past so_far =
+    let none : count - element ≡ 0 = omega (arith, end, past) in
     sym (append-nil before) ∙ ap (λ (n : ℕ). before ++ elements_from n (first + element)) (sym none) ∙ so_far

@@ -5,7 +5,7 @@ use Rattle.litmus_words.specs.declared.word.Word.{Word}
 use Rattle.litmus_words.specs.Bytes.{same_bytes}
 use Rattle.litmus_reading.specs.declared.locations.{Named.Named, Beginning.Beginning}
 use Rattle.litmus_reading.specs.Declarations.{declaration_of}
-use Rattle.litmus_reading.specs.Names.{behind, declared_at, is_new, name_at, named, new_names}
+use Rattle.litmus_reading.specs.Names.{behind, declared_at, is_new, name_at, declared_of, new_names}
 
 -- the element at a place, and those behind it
 pub drop_here : {A : Type 0} (xs : List A) (i : ℕ) (d : A) → i < length xs
@@ -78,18 +78,18 @@ names_same text inside all names next words i d here so_far old =
 -- the names, one more at each turn
 pub named_here : (text : List ℕ) (names : List Named) (word : Word) (i : ℕ) (d : Named) → i < length names
     → same_bytes text (get_or names i d).word word ≡ true
-    → named text (drop i names) word ≡ Some (get_or names i d).declared
+    → declared_of text (drop i names) word ≡ Some (get_or names i d).declared
 named_here text names word i d inside same =
-    ap (λ (t : List Named). named text t word) (drop_here names i d inside)
-    ∙ ap (λ (b : Bool). if b then Some (get_or names i d).declared else named text (drop (i + 1) names) word) same
+    ap (λ (t : List Named). declared_of text t word) (drop_here names i d inside)
+    ∙ ap (λ (b : Bool). if b then Some (get_or names i d).declared else declared_of text (drop (i + 1) names) word) same
 
 pub named_later : (text : List ℕ) (names : List Named) (word : Word) (i : ℕ) (d : Named) → i < length names
     → same_bytes text (get_or names i d).word word ≡ false
-    → named text (drop i names) word ≡ named text (drop (i + 1) names) word
+    → declared_of text (drop i names) word ≡ declared_of text (drop (i + 1) names) word
 named_later text names word i d inside other =
-    ap (λ (t : List Named). named text t word) (drop_here names i d inside)
-    ∙ ap (λ (b : Bool). if b then Some (get_or names i d).declared else named text (drop (i + 1) names) word) other
+    ap (λ (t : List Named). declared_of text t word) (drop_here names i d inside)
+    ∙ ap (λ (b : Bool). if b then Some (get_or names i d).declared else declared_of text (drop (i + 1) names) word) other
 
 pub not_named : (text : List ℕ) (names : List Named) (word : Word) (i : ℕ) → length names ≤ i
-    → named text (drop i names) word ≡ None
-not_named text names word i past = ap (λ (t : List Named). named text t word) (drop_of_length-le names past)
+    → declared_of text (drop i names) word ≡ None
+not_named text names word i past = ap (λ (t : List Named). declared_of text t word) (drop_of_length-le names past)

@@ -23,19 +23,19 @@ words_all entries names i all before past so_far =
     sym (append-nil before)
     ∙ ap (λ (t : List Named). before ++ memory_of entries t) (sym (drop_of_length-le names past)) ∙ so_far
 
-pub word_more : (entries : List Entry) (declared : Declared) (count word : ℕ) (all before after : List Value)
-    (held : Value) → word < count → before ++ words_from (count - word) entries declared word ≡ all
+pub word_more : (entries : List Entry) (declared : Declared) (count last word : ℕ) (all before after : List Value)
+    (held : Value) → last ≡ count → word < last → before ++ words_from (count - word) entries declared word ≡ all
     → held ≡ word_at entries declared word → after ≡ before ++ held ∷ []
     → after ++ words_from (count - (word + 1)) entries declared (word + 1) ≡ all
-word_more entries declared count word all before after held inside so_far at is =
-    let left : count - word ≡ suc (count - (word + 1)) = omega (arith, inside) in
+word_more entries declared count last word all before after held end inside so_far at is =
+    let left : count - word ≡ suc (count - (word + 1)) = omega (arith, end, inside) in
     ap (λ (t : List Value). t ++ words_from (count - (word + 1)) entries declared (word + 1)) is
     ∙ append_assoc before (held ∷ []) (words_from (count - (word + 1)) entries declared (word + 1))
     ∙ ap (λ (t : Value). before ++ t ∷ words_from (count - (word + 1)) entries declared (word + 1)) at
     ∙ ap (λ (n : ℕ). before ++ words_from n entries declared word) (sym left) ∙ so_far
 
-pub no_word_more : (entries : List Entry) (declared : Declared) (count word : ℕ) (all before : List Value)
-    → count ≤ word → before ++ words_from (count - word) entries declared word ≡ all → before ≡ all
-no_word_more entries declared count word all before past so_far =
-    let none : count - word ≡ 0 = omega (arith, past) in
+pub no_word_more : (entries : List Entry) (declared : Declared) (count last word : ℕ) (all before : List Value)
+    → last ≡ count → last ≤ word → before ++ words_from (count - word) entries declared word ≡ all → before ≡ all
+no_word_more entries declared count last word all before end past so_far =
+    let none : count - word ≡ 0 = omega (arith, end, past) in
     sym (append-nil before) ∙ ap (λ (n : ℕ). before ++ words_from n entries declared word) (sym none) ∙ so_far

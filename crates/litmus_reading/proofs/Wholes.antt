@@ -5,7 +5,7 @@ use Rattle.std.specs.Prelude.{slice_get, option_and_then, unwrap_or, is_none}
 use Rattle.std.specs.Prelude.{All}
 use Rattle.std.proofs.lemmas.List.{take_more}
 use Rattle.std.proofs.lemmas.List.Elements.{All-append, All-cons, All-nil}
-use Rattle.std.proofs.lemmas.Option.{slice_get_within, get_or_from_slice_get}
+use Rattle.std.proofs.lemmas.Option.{slice_get_within, slice_get-get_or, get_or_from_slice_get}
 use Rattle.std.proofs.Common.{refl, sym, ap, ◌∙◌, subst, inl, inr, arith, append_assoc, append-nil, drop_of_length-le, length-append}
 use Rattle.std.specs.Prelude.{◌⊎◌}
 use Rattle.litmus_tests.specs.declared.location.Location.{Location}
@@ -48,36 +48,50 @@ on_the_same : (o : Option ℕ) → option_and_then (λ (n : ℕ). Some n) o ≡ 
 on_the_same None = refl
 on_the_same (Some n) = refl
 
+open_on : (words : List Word) (word : Word) (now : ℕ)
+    → ((first : ℕ) → open_after first words ≡ Some now
+    → open_after first (words ++ word ∷ []) ≡ open_behind word.token now)
+    → (o : Option ℕ) → option_and_then (λ (n : ℕ). open_after n words) o ≡ Some now
+    → option_and_then (λ (n : ℕ). open_after n (words ++ word ∷ [])) o ≡ open_behind word.token now
+open_on words word now on None e = absurd (true≢false (ap (λ (o : Option ℕ). is_none o) e))
+open_on words word now on (Some n) e = on n e
+
 open_more : (words : List Word) (word : Word) (first now : ℕ) → open_after first words ≡ Some now
     → open_after first (words ++ word ∷ []) ≡ open_behind word.token now
-
-open_on : (words : List Word) (word : Word) (now : ℕ) (o : Option ℕ)
-    → option_and_then (λ (n : ℕ). open_after n words) o ≡ Some now
-    → option_and_then (λ (n : ℕ). open_after n (words ++ word ∷ [])) o ≡ open_behind word.token now
-open_on words word now None e = absurd (true≢false (ap (λ (o : Option ℕ). is_none o) e))
-open_on words word now (Some n) e = open_more words word n now e
-
 open_more [] word first now is =
     on_the_same (open_behind word.token first)
     ∙ ap (open_behind word.token) (ap (λ (o : Option ℕ). unwrap_or o first) is)
-open_more (w ∷ words) word first now is = open_on words word now (open_behind w.token first) is
+open_more (w ∷ words) word first now is =
+    open_on words word now (λ n e. open_more words word n now e) (open_behind w.token first) is
 
-pub open_at : (words : List Word) (place now : ℕ) (d : Word) (token : Token) → place < length words
-    → open_after 0 (take place words) ≡ Some now → (get_or words place d).token ≡ token
-    → open_after 0 (take (place + 1) words) ≡ open_behind token now
-open_at words place now d token inside is there =
+pub open_at : (words : List Word) (place depth : ℕ) (next : ℕ) (d : Word) → place < length words
+    → open_after 0 (take place words) ≡ Some depth → Some next ≡ open_behind (get_or words place d).token depth
+    → open_after 0 (take (place + 1) words) ≡ Some next
+open_at words place depth next d inside is there =
     ap (open_after 0) (take_more words place d inside)
-    ∙ open_more (take place words) (get_or words place d) 0 now is ∙ ap (λ (t : Token). open_behind t now) there
+    ∙ open_more (take place words) (get_or words place d) 0 depth is ∙ sym there
 
-pub open_other : (token : Token) (open : ℕ) → token ≢ Mark mark.LeftBrace → token ≢ Mark mark.RightBrace
-    → open_behind token open ≡ Some open
-open_other (Mark mark.LeftBrace) open left right = absurd (left refl)
-open_other (Mark mark.RightBrace) open left right = absurd (right refl)
-open_other token open left right = refl
+less_none : (depth : ℕ) → None ≡ one_less depth → depth ≡ 0
+less_none zero e = refl
+less_none (suc depth) e = absurd (true≢false (ap (λ (o : Option ℕ). is_none o) e))
 
-pub open_less : (open : ℕ) → (open ≡ 0 → ⊥) → one_less open ≡ Some (open - 1)
-open_less zero some = absurd (some refl)
-open_less (suc open) some = refl
+closes_none : (token : Token) (depth : ℕ) → None ≡ open_behind token depth
+    → (token ≡ Mark mark.RightBrace) × (depth ≡ 0)
+closes_none (Mark mark.LeftBrace) depth e = absurd (true≢false (ap (λ (o : Option ℕ). is_none o) e))
+closes_none (Mark mark.RightBrace) depth e = (refl, less_none depth e)
+closes_none token depth e = absurd (true≢false (ap (λ (o : Option ℕ). is_none o) e))
+
+pub closed_at : (words : List Word) (place depth : ℕ) (d : Word) → place < length words
+    → None ≡ open_behind (get_or words place d).token depth → open_after 0 (take place words) ≡ Some depth
+    → IsClosedAt words place
+closed_at words place depth d inside closes so_far =
+    let none = closes_none (get_or words place d).token depth closes in
+    record {
+      last = get_or words place d;
+      there = slice_get-get_or words place d inside;
+      closes = none.0;
+      alone = so_far ∙ ap (λ (n : ℕ). Some n) none.1;
+    }
 
 pub heads_more : (row : List Word) (i : ℕ) (d : Word) (all : List Word) → i < length row
     → (AreHeads i (drop i row) → AreHeads 0 all) → IsHead i (get_or row i d).token
@@ -151,7 +165,7 @@ take_front {A} [] (x ∷ rest) = refl
 take_front {A} (x ∷ front) rest = ap (λ (t : List A). x ∷ t) (take_front front rest)
 
 pub table : (harts : ℕ) (words rest : List Word) (count : ℕ) → RowsBefore harts words rest
-    → count + length rest ≡ length words → IsTable harts words (take count words) rest
+    → count ≡ length words - length rest → IsTable harts words (take count words) rest
 table harts words rest count so_far many =
     let long : length words ≡ length so_far.rows + length rest =
     ap length so_far.spelled ∙ length-append so_far.rows rest in
@@ -193,12 +207,12 @@ element_more text whole name count before now after location so_far is added = r
       (sym (append_assoc so_far.elements (location ∷ []) more)) (so_far.are (location ∷ more) (is, are));
 }
 
-pub all_elements : (text whole : List ℕ) (name : Named) (count : ℕ) (before now : List Location)
-    → ElementsSoFar text whole name count before now → count ≡ elements_of name.declared
+pub all_elements : (text whole : List ℕ) (name : Named) (count most : ℕ) (before now : List Location)
+    → ElementsSoFar text whole name count before now → most ≡ elements_of name.declared → count ≤ most → most ≤ count
     → LocationsAdded text whole name before now
-all_elements text whole name count before now so_far all = record {
+all_elements text whole name count most before now so_far all inside past = record {
   elements = so_far.elements;
-  count = so_far.many ∙ all;
+  count = so_far.many ∙ (let same : count ≡ most = omega (arith, inside, past) in same) ∙ all;
   are = subst (AreElementsFrom text whole name 0) (append-nil so_far.elements) (so_far.are [] tt);
   added = so_far.added;
 }

@@ -35,13 +35,13 @@ behind declared = record {
 }
 
 -- What a word is the name of: what the first name is with the same bytes.
-abbrev pub named : List ℕ → List Named → Word → Option Declared
-named text [] word = None
-named text (name ∷ names) word =
-    if same_bytes text name.word word then Some name.declared else named text names word
+abbrev pub declared_of : List ℕ → List Named → Word → Option Declared
+declared_of text [] word = None
+declared_of text (name ∷ names) word =
+    if same_bytes text name.word word then Some name.declared else declared_of text names word
 
 abbrev pub is_new : List ℕ → List Named → Word → Bool
-is_new text names word = is_name word.token && is_none (named text names word)
+is_new text names word = is_name word.token && is_none (declared_of text names word)
 
 -- A name that begins there, as these words declare it.
 abbrev pub name_at : List ℕ → List Word → Beginning → Word → Named
@@ -66,4 +66,4 @@ as_location word None = word
 as_location word (Some declared) = record word { token = Location declared }
 
 abbrev pub located_word : List ℕ → List Named → Word → Word
-located_word text names word = if is_name word.token then as_location word (named text names word) else word
+located_word text names word = if is_name word.token then as_location word (declared_of text names word) else word

@@ -58,10 +58,10 @@ pub record ItemTaken (words : List Word) (before : List Observed) (whole_before 
 
 -- `0:x7; x;`, of which the last may have no `;`.
 pub data AreListed : List Observed → List ℕ → List Token → Type 0 where
-  none : AreListed [] [] []
-  last : (text : List Token) (listed : List Observed) (whole : List ℕ) → SpellsItem text listed whole
+  listed_none : AreListed [] [] []
+  listed_last : (text : List Token) (listed : List Observed) (whole : List ℕ) → SpellsItem text listed whole
       → AreListed listed whole text
-  more : (text others : List Token) (listed further : List Observed) (whole further_whole : List ℕ)
+  listed_more : (text others : List Token) (listed further : List Observed) (whole further_whole : List ℕ)
       → SpellsItem text listed whole → AreListed further further_whole others
       → AreListed (listed ++ further) (whole ++ further_whole) (text ++ Mark mark.Semicolon ∷ others)
 

@@ -188,10 +188,10 @@ pub record EntryTaken (words : List Word) (before after : List Entry) (rest : Li
 
 -- All entries behind those before, in their order.
 pub data AreEntries : List Entry → List Entry → List Token → Type 0 where
-  none : (before : List Entry) → AreEntries before [] []
-  last : (before entries : List Entry) (text : List Token) → SpellsEntry before text entries
+  entries_none : (before : List Entry) → AreEntries before [] []
+  entries_last : (before entries : List Entry) (text : List Token) → SpellsEntry before text entries
       → AreEntries before entries text
-  more : (before entries further : List Entry) (text others : List Token) → SpellsEntry before text entries
+  entries_more : (before entries further : List Entry) (text others : List Token) → SpellsEntry before text entries
       → AreEntries (before ++ entries) further others
       → AreEntries before (entries ++ further) (text ++ Mark mark.Semicolon ∷ others)
 

@@ -23,19 +23,20 @@ use Rattle.litmus_reading.specs.Rows.{ended_by, is_bar, is_semicolon, parted_by}
 use Rattle.litmus_reading.specs.Starts.{starts_of, AreEntries}
 use Rattle.litmus_reading.specs.Threads.{SpellsThread}
 
--- How many braces are open behind words of which so many were open before: none where one closes that was never opened.
+-- How many braces are open behind a token, before which so many are: none where one closes that was never opened.
 abbrev pub one_less : ℕ → Option ℕ
 one_less zero = None
 one_less (suc less) = Some less
 
 abbrev pub open_behind : Token → ℕ → Option ℕ
-open_behind (Mark mark.LeftBrace) open = Some (open + 1)
-open_behind (Mark mark.RightBrace) open = one_less open
-open_behind token open = Some open
+open_behind (Mark mark.LeftBrace) depth = Some (depth + 1)
+open_behind (Mark mark.RightBrace) depth = one_less depth
+open_behind token depth = Some depth
 
+-- The same behind words.
 abbrev pub open_after : ℕ → List Word → Option ℕ
-open_after open [] = Some open
-open_after open (word ∷ words) = option_and_then (λ now. open_after now words) (open_behind word.token open)
+open_after depth [] = Some depth
+open_after depth (word ∷ words) = option_and_then (λ now. open_after now words) (open_behind word.token depth)
 
 -- What stands in the braces, and behind them: those that open in it close in it.
 pub record IsBraced (words inside behind : List Word) : Type 0 where

@@ -8,7 +8,7 @@ ghost use Rattle.litmus_reading.specs.Names.{
   elements_of,
   is_new,
   located_word,
-  named,
+  declared_of,
   new_names,
   start_of_memory,
 };
@@ -144,14 +144,14 @@ fn is_new(text: &[u8], names: &[Named], word: Word) -> bool
     ensures { result ≡ is_new text.now names.now word }
 {
     match word.token {
-        Token::Name => named(text, names, word).is_none(),
+        Token::Name => declared_of(text, names, word).is_none(),
         _ => false,
     }
 }
 
 /// What a word is the name of, among these.
-fn named(text: &[u8], names: &[Named], word: Word) -> Option<Declared>
-    ensures { result ≡ named text.now names.now word }
+fn declared_of(text: &[u8], names: &[Named], word: Word) -> Option<Declared>
+    ensures { result ≡ declared_of text.now names.now word }
 {
     for name in names {
         if same_bytes(text, name.word, word) {
@@ -181,7 +181,7 @@ fn located_word(text: &[u8], word: Word, names: &[Named]) -> Word
     ensures { result ≡ located_word text.now names.now word }
 {
     match word.token {
-        Token::Name => match named(text, names, word) {
+        Token::Name => match declared_of(text, names, word) {
             Some(declared) => Word {
                 token: Token::Location(declared),
                 ..word

@@ -1,11 +1,13 @@
 //! A whole test.
 
-ghost use Rattle.std.specs.Prelude.{◌≡◌, ◌≤◌, ◌<◌, ◌+◌, ◌*◌, length, IfOk, IfErr, IfSome, OnOk};
+ghost use Rattle.std.specs.Prelude.{◌≡◌, ◌≤◌, ◌<◌, ◌+◌, ◌*◌, length, get_or, IfOk, IfErr, IfSome, OnOk};
 ghost use Rattle.litmus_tests.specs.WellFormed.{IsWellFormed};
 ghost use Rattle.litmus_words.specs.Places.{IsRefusedIn};
 ghost use Rattle.litmus_words.specs.Parts.{element_size};
+ghost use Rattle.litmus_words.specs.declared.word.Word.{Word as AnyWord};
 ghost use Rattle.litmus_reading.specs.Texts.{
   element_of,
+  open_behind,
   AreLocations,
   AreThreads,
   IsBraced,
@@ -29,8 +31,8 @@ use crate::thread::read_steps;
 use litmus_tests::test::MOST_LOCATIONS;
 use litmus_tests::{Element, LitmusTest, Location, Thread, Width};
 use litmus_words::{
-    Declared, Fault, MOST_BYTES, Mark, ReadingRefused, Shown, Stop, Word, bytes_of, is_mark,
-    name_end, next, place_of, start_of, words_of,
+    Declared, Fault, MOST_BYTES, Mark, ReadingRefused, Shown, Stop, Token, Word, bytes_of,
+    is_mark, name_end, next, place_of, start_of, words_of,
 };
 use std::alloc::Global;
 use std::str;
@@ -109,18 +111,33 @@ fn closing(words: &[Word]) -> Option<usize>
     ensures inside { IfSome result (λ place. place < length words.now) }
     ensures closes { IfSome result (IsClosedAt words.now) }
 {
-    let mut open = 0_usize;
+    let mut depth = 0_usize;
     for place in 0..words.len() {
-        if is_mark(words[place], Mark::LeftBrace) {
-            open += 1;
-        } else if is_mark(words[place], Mark::RightBrace) {
-            if open == 0 {
-                return Some(place);
-            }
-            open -= 1;
-        }
+        let Some(next) = open_behind(words, place, depth) else {
+            return Some(place);
+        };
+        depth = next;
     }
     None
+}
+
+/// How many braces are open behind a word, before which so many are; none where it closes what was open before.
+fn open_behind(words: &[Word], place: usize, depth: usize) -> Option<usize>
+    requires inside { place < length words.now }
+    requires few { depth ≤ place }
+    ensures after { (d : AnyWord) → result ≡ open_behind (get_or words.now place d).token depth }
+    ensures few { IfSome result (λ next. next ≤ place + 1) }
+{
+    match words[place].token {
+        Token::Mark(Mark::LeftBrace) => Some(depth + 1),
+        Token::Mark(Mark::RightBrace) => {
+            if depth == 0 {
+                return None;
+            }
+            Some(depth - 1)
+        }
+        _ => Some(depth),
+    }
 }
 
 /// Reads the words of a test, in which the names of locations are known.

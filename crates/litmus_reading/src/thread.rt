@@ -50,7 +50,8 @@ pub(crate) fn read_steps(
     let column = read_column(text, rows, hart, alloc)?;
     let mut steps = Vec::new(alloc);
     for written in column.steps.as_slice() {
-        steps.push(step_of(text, column.labels.as_slice(), *written)?)?;
+        let step = step_of(text, column.labels.as_slice(), *written)?;
+        steps.push(step)?;
     }
     Ok(steps)
 }

@@ -10,6 +10,7 @@ use Rattle.outcome_text.specs.Listing.{incomplete_text, ends_text}
 use Rattle.litmus_tests.specs.declared.test.LitmusTest.{LitmusTest}
 use Rattle.litmus_tests.specs.{WellFormed.IsWellFormed, Conditions.holding}
 use Rattle.litmus_words.specs.Places.{IsPlaceIn}
+use Rattle.litmus_reading.specs.Texts.{IsTextOf}
 use Rattle.litmus_images.specs.{Image.IsLitmusImage, Watching.registers_observed, Watching.words_observed}
 use Rattle.litmus_text.specs.States.{states_text, states_in}
 use Rattle.sim_inputs.specs.declared.line.LitmusCommand.{LitmusCommand}
@@ -68,10 +69,11 @@ abbrev pub TestComesTo : LitmusTest → LitmusCommand → Option (List ℕ) → 
 TestComesTo test command old new status =
     PrintsAllStates test command old new status ⊎ PrintsIncompleteTest test command old new status
 
--- So it does with the test that was read.
-pub record LitmusComesTo (command : LitmusCommand) (old new : Option (List ℕ)) (exit_status : ℕ)
+-- So it does with the test that the text is.
+pub record LitmusComesTo (text : List ℕ) (command : LitmusCommand) (old new : Option (List ℕ)) (exit_status : ℕ)
     : Type 0 where
   pub test : LitmusTest
+  pub is_text : IsTextOf text test
   pub well_formed : IsWellFormed test
   pub comes : TestComesTo test command old new exit_status
 

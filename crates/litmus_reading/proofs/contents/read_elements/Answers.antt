@@ -1,5 +1,3 @@
-use Rattle.std.proofs.Common.{◌<◌, arith}
-use Rattle.litmus_reading.specs.Names.{elements_of}
 use Rattle.litmus_reading.proofs.Entries.{reads_last, reads_more, reads_none}
 use Rattle.litmus_reading.proofs.contents.read_elements.Goals as goal
 
@@ -14,7 +12,6 @@ loop-element-preserved c =
 
 pub returns-in_default : goal.returns-in_default
 returns-in_default c =
-    let inside : c.loop-element.element < elements_of c.args.declared =
-    omega (arith, c.loop-element-test.true, c.elements_of-count.ensures.value) in
-    reads_last _ _ _ _ _ _ _ _ _ _ _ inside c.loop-element.invariant c.in_ok-value.ensures c.in_ok-after.ensures.spelled
-    c.in_ok-index.ensures c.in_ok-add_initial.ensures
+    reads_last _ _ _ _ _ _ _ _ _ _ _ _ c.elements_of-count.ensures.value c.loop-element-test.true
+    c.loop-element.invariant c.in_ok-value.ensures c.in_ok-after.ensures.spelled c.in_ok-index.ensures
+    c.in_ok-add_initial.ensures

@@ -1,6 +1,9 @@
-use Rattle.std.proofs.Common.{arith}
 use Rattle.litmus_reading.proofs.Entries.{last_entry, next_entry, no_entry}
 use Rattle.litmus_reading.proofs.start.read_start.Goals as goal
+
+pub loop-rest-init : goal.loop-rest-init
+loop-rest-init c =
+    rw c.new-entries.ensures.items (λ others are. are)
 
 pub loop-rest-preserved : goal.loop-rest-preserved
 loop-rest-preserved c =

@@ -1,6 +1,6 @@
 use Rattle.std.proofs.Common.{sym, ◌∙◌}
 use Rattle.litmus_reading.proofs.Naming.{named_here, named_later, not_named}
-use Rattle.litmus_reading.proofs.locations.named.Goals as goal
+use Rattle.litmus_reading.proofs.locations.declared_of.Goals as goal
 
 pub loop-name-preserved : goal.loop-name-preserved
 loop-name-preserved c =
