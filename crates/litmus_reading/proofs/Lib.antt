@@ -4,6 +4,7 @@ pub mod Conditions
 pub mod Declaring
 pub mod Entries
 pub mod Listing
+pub mod Looking
 pub mod Naming
 pub mod Remembered
 pub mod Told

@@ -1,7 +1,9 @@
 pub mod Declarations
 pub mod Fences
 pub mod Grammar
+pub mod Heads
 pub mod Instructions
+pub mod Looked
 pub mod Memory
 pub mod Names
 pub mod Questions

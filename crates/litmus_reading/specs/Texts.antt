@@ -1,5 +1,5 @@
 -- A whole test: the start in braces, the row of harts, the rows below it, and the question.
-use Rattle.std.specs.Prelude.{◌≡◌, ℕ, zero, suc, ◌+◌, ◌*◌, ◌/◌, ◌%◌, Bool, true, false, if◌then◌else◌, ◌==◌, List, [], ◌∷◌, ◌++◌, length, map, take, All}
+use Rattle.std.specs.Prelude.{◌≡◌, ℕ, zero, suc, ◌+◌, ◌*◌, ◌/◌, ◌%◌, Bool, true, false, if◌then◌else◌, ◌==◌, List, [], ◌∷◌, ◌++◌, ◌≤◌, length, map, take, All}
 use Rattle.std.specs.Prelude.{Option, Some, None, option_and_then, slice_get}
 use Rattle.std.specs.List.{list_any}
 use Rattle.litmus_tests.specs.declared.test.LitmusTest.{LitmusTest}
@@ -16,6 +16,8 @@ use Rattle.litmus_words.specs.Parts.{element_size}
 use Rattle.litmus_words.specs.Tokens.{tokens}
 use Rattle.litmus_reading.specs.declared.locations.Named.{Named}
 use Rattle.litmus_reading.specs.declared.start.Entry.{Entry}
+use Rattle.litmus_reading.specs.Heads.{IsHeadOf}
+use Rattle.litmus_reading.specs.Looked.{looked_at}
 use Rattle.litmus_reading.specs.Memory.{memory_of}
 use Rattle.litmus_reading.specs.Names.{elements_of, located_word, names_in}
 use Rattle.litmus_reading.specs.Questions.{SpellsQuestion}
@@ -139,13 +141,18 @@ pub record IsOfWords (text : List ℕ) (names : List Named) (words : List Word) 
   pub locations : AreLocations text whole names test.locations.items
   pub threads : AreThreads text rows entries 0 test.threads.items
   pub question : SpellsQuestion asked test.quantifier test.condition test.filter listed whole
+  pub observed : test.observed.items ≡ looked_at test.condition test.filter listed (length test.threads.items)
+      (length test.locations.items)
 
--- The text is that of the test: these words stand in it from some byte on, and are those of the test.
+-- The text is that of the test: its name stands before the braces, from where these words stand, and nothing else, and
+-- they are those of the test.
 pub record IsTextOf (text : List ℕ) (test : LitmusTest) : Type 0 where
   pub from : ℕ
   pub words : List Word
   pub inside : List Word
   pub behind : List Word
+  pub short : length text ≤ 65536
+  pub head : IsHeadOf text test.name.items from
   pub stand : StandFrom text from words
   pub braced : IsBraced words inside behind
   pub is : IsOfWords text (names_in text inside) (map (located_word text (names_in text inside)) words) test

@@ -2,6 +2,7 @@
 
 ghost use Rattle.std.specs.Prelude.{◌≡◌, ◌++◌, ◌∷◌, [], IfOk, IfSome, OnOk};
 ghost use Rattle.litmus_words.specs.Tokens.{Takes};
+ghost use Rattle.litmus_reading.specs.Grammar.{ConditionTaken};
 ghost use Rattle.litmus_reading.specs.Names.{elements_of};
 ghost use Rattle.litmus_reading.specs.Questions.{
   elements_from,
@@ -25,16 +26,13 @@ use litmus_tests::test::MOST_NESTED;
 use litmus_tests::{Condition, Observed, Quantifier};
 use litmus_words::{Declared, Fault, Mark, Stop, Token, Word, begins_with, mark, next, nothing};
 
-/// What is asked, and what it names: what stands in `locations`, and what the terms look at.
+/// What is asked, the filter, and what stands in `locations`.
 #[derive(Drop)]
 pub(crate) struct Question {
     pub quantifier: Quantifier,
     pub condition: Condition,
     pub filter: Condition,
     pub listed: Listed,
-    /// What the terms of the filter look at, and those of the condition.
-    pub filtered: Vec<Observed>,
-    pub terms: Vec<Observed>,
 }
 
 /// What stands in `locations`, and the arrays that stand there without an index, by the index of their first element.
@@ -51,25 +49,14 @@ pub(crate) fn read_question(asked: &Asked, words: &[Word]) -> Result<Question, S
         q.listed.observed.items q.listed.whole.items) }
 {
     let mut listed = no_list(asked);
-    let mut filtered = no_leaves(asked);
-    let (has_list, filter, rest) = read_before(asked, words, &mut listed, &mut filtered)?;
-    let mut leaves = no_leaves(asked);
-    let (quantifier, condition) = read_asked(asked, has_list, rest, &mut leaves)?;
+    let (has_list, filter, rest) = read_before(asked, words, &mut listed)?;
+    let (quantifier, condition) = read_asked(asked, has_list, rest)?;
     Ok(Question {
         quantifier,
         condition,
         filter,
         listed,
-        filtered: filtered.observed,
-        terms: leaves.observed,
     })
-}
-
-fn no_leaves(asked: &Asked) -> Leaves {
-    Leaves {
-        count: 0,
-        observed: Vec::new(asked.alloc),
-    }
 }
 
 fn no_list(asked: &Asked) -> Listed
@@ -87,7 +74,6 @@ fn read_asked(
     asked: &Asked,
     has_list: bool,
     words: &[Word],
-    leaves: &mut Leaves,
 ) -> Result<(Quantifier, Condition), Stop>
     ensures { IfOk result (λ p. IsAskedAfter has_list words.now p.0 p.1) }
 {
@@ -96,20 +82,16 @@ fn read_asked(
             return Ok((Quantifier::ForAll, Condition::Always));
         }
     }
-    let (quantifier, condition) = read_quantified(asked, words, leaves)?;
+    let (quantifier, condition) = read_quantified(asked, words)?;
     Ok((quantifier, condition))
 }
 
 /// Reads a quantifier and a condition, with nothing behind it.
-fn read_quantified(
-    asked: &Asked,
-    words: &[Word],
-    leaves: &mut Leaves,
-) -> Result<(Quantifier, Condition), Stop>
+fn read_quantified(asked: &Asked, words: &[Word]) -> Result<(Quantifier, Condition), Stop>
     ensures { IfOk result (λ p. IsAsked words.now p.0 p.1) }
 {
     let (quantifier, rest) = read_quantifier(words, asked.end)?;
-    let (condition, rest) = read_condition(asked, rest, MOST_NESTED as u8, leaves)?;
+    let (condition, rest) = read_whole(asked, rest)?;
     nothing(rest, Fault::BehindCondition)?;
     Ok((quantifier, condition))
 }
@@ -119,17 +101,16 @@ fn read_before<'a>(
     asked: &Asked,
     words: &'a [Word],
     listed: &mut Listed,
-    filtered: &mut Leaves,
 ) -> Result<(bool, Condition, &'a [Word]), Stop>
     ensures { IfOk result (λ p. IsBefore words.now p.0 listed.new.observed.items listed.new.whole.items p.1 p.2.now) }
 {
     if begins_with(words, Mark::Filter) {
-        let (filter, between) = read_filter(asked, words, filtered)?;
+        let (filter, between) = read_filter(asked, words)?;
         let (has_list, rest) = may_list(asked, between, listed)?;
         return Ok((has_list, filter, rest));
     }
     let (has_list, between) = may_list(asked, words, listed)?;
-    let (filter, rest) = may_filter(asked, between, filtered)?;
+    let (filter, rest) = may_filter(asked, between)?;
     Ok((has_list, filter, rest))
 }
 
@@ -150,31 +131,32 @@ fn may_list<'a>(
 }
 
 /// Reads a filter, where it stands.
-fn may_filter<'a>(
-    asked: &Asked,
-    words: &'a [Word],
-    filtered: &mut Leaves,
-) -> Result<(Condition, &'a [Word]), Stop>
+fn may_filter<'a>(asked: &Asked, words: &'a [Word]) -> Result<(Condition, &'a [Word]), Stop>
     ensures { IfOk result (λ p. MayFilter words.now p.0 p.1.now) }
 {
     if begins_with(words, Mark::Filter) {
-        let (filter, rest) = read_filter(asked, words, filtered)?;
+        let (filter, rest) = read_filter(asked, words)?;
         return Ok((filter, rest));
     }
     Ok((Condition::Always, words))
 }
 
 /// Reads `filter` and a condition.
-fn read_filter<'a>(
-    asked: &Asked,
-    words: &'a [Word],
-    filtered: &mut Leaves,
-) -> Result<(Condition, &'a [Word]), Stop>
+fn read_filter<'a>(asked: &Asked, words: &'a [Word]) -> Result<(Condition, &'a [Word]), Stop>
     ensures { IfOk result (λ p. FilterTaken words.now p.0 p.1.now) }
 {
     let behind = mark(words, Mark::Filter, asked.end)?;
-    let (filter, rest) = read_condition(asked, behind, MOST_NESTED as u8, filtered)?;
+    let (filter, rest) = read_whole(asked, behind)?;
     Ok((filter, rest))
+}
+
+/// Reads a condition, of which no term was read before.
+fn read_whole<'a>(asked: &Asked, words: &'a [Word]) -> Result<(Condition, &'a [Word]), Stop>
+    ensures { IfOk result (λ p. ConditionTaken 4 words.now p.0 p.1.now) }
+{
+    let mut leaves = Leaves { count: 0 };
+    let (condition, rest) = read_condition(asked, words, MOST_NESTED as u8, &mut leaves)?;
+    Ok((condition, rest))
 }
 
 /// Reads `locations [0:x7; x;]`.

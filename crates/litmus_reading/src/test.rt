@@ -1,6 +1,6 @@
 //! A whole test.
 
-ghost use Rattle.std.specs.Prelude.{◌≡◌, ◌≤◌, ◌<◌, ◌+◌, ◌*◌, length, get_or, IfOk, IfErr, IfSome, OnOk};
+ghost use Rattle.std.specs.Prelude.{◌≡◌, ◌≤◌, ◌<◌, ◌+◌, ◌*◌, length, get_or, slice_range, IfOk, IfErr, IfSome, OnOk};
 ghost use Rattle.litmus_tests.specs.WellFormed.{IsWellFormed};
 ghost use Rattle.litmus_words.specs.Places.{IsRefusedIn};
 ghost use Rattle.litmus_words.specs.Parts.{element_size};
@@ -149,7 +149,9 @@ fn read_words(
     alloc: Global,
 ) -> Result<LitmusTest, Stop>
     requires { (head.name_start ≤ head.name_end) × (head.name_end ≤ length text.now) }
-    ensures { IfOk result (IsOfWords text.now names.now words.now) }
+    ensures name { IfOk result (λ test.
+        test.name.items ≡ slice_range text.now head.name_start head.name_end) }
+    ensures words { IfOk result (IsOfWords text.now names.now words.now) }
 {
     let end = text.len();
     let (inside, behind) = braces(words, end)?;
