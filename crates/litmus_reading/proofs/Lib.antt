@@ -7,5 +7,6 @@ pub mod Listing
 pub mod Looking
 pub mod Naming
 pub mod Remembered
+pub mod Together
 pub mod Told
 pub mod Wholes

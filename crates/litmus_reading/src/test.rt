@@ -77,9 +77,7 @@ fn read_test(text: &[u8], alloc: Global) -> Result<LitmusTest, Stop>
     ensures sound { IfOk result IsWellFormed }
     ensures read { IfOk result (IsTextOf text.now) }
 {
-    if text.len() > MOST_BYTES {
-        return Err(Stop::at(MOST_BYTES, Fault::TooLong));
-    }
+    check_length(text)?;
     let head = read_head(text)?;
     let words = words_of(text, head.braces, alloc)?;
     let (inside, _) = braces(words.as_slice(), text.len())?;
@@ -90,6 +88,16 @@ fn read_test(text: &[u8], alloc: Global) -> Result<LitmusTest, Stop>
         return Err(Stop::at(head.braces, Fault::NotOfSubset));
     }
     Ok(test)
+}
+
+/// Refuses a text of more bytes than there may be.
+fn check_length(text: &[u8]) -> Result<(), Stop>
+    ensures { OnOk result (length text.now ≤ 65536) }
+{
+    if text.len() > MOST_BYTES {
+        return Err(Stop::at(MOST_BYTES, Fault::TooLong));
+    }
+    Ok(())
 }
 
 /// The words in the braces, and behind them.
@@ -162,18 +170,16 @@ fn read_words(
     let question = read_question(&Asked { harts, end, alloc }, asked)?;
     let whole = question.listed.whole.as_slice();
     let locations = read_locations(text, names, whole, alloc)?;
-    let observed = observed_of(
-        &question,
-        harts,
-        locations.len(),
-        start_of(asked, end),
-        alloc,
-    )?;
+    let count = locations.len();
+    let observed = observed_of(&question, harts, count, start_of(asked, end), alloc)?;
+    let name = Vec::from_slice(alloc, &text[head.name_start..head.name_end])?;
+    let memory = read_memory(names, entries.as_slice(), alloc)?;
+    let threads = read_threads(text, rows, harts, entries.as_slice(), alloc)?;
     Ok(LitmusTest {
-        name: Vec::from_slice(alloc, &text[head.name_start..head.name_end])?,
-        words: read_memory(names, entries.as_slice(), alloc)?,
+        name,
+        words: memory,
         locations,
-        threads: read_threads(text, rows, harts, entries.as_slice(), alloc)?,
+        threads,
         quantifier: question.quantifier,
         condition: question.condition,
         filter: question.filter,
