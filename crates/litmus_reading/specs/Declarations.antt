@@ -3,7 +3,8 @@ use Rattle.std.specs.Prelude.{ℕ, Bool, true, false, ◌&&◌, if◌then◌else
 use Rattle.litmus_tests.specs.{declared.number_type.NumberType.NumberType, Locations.int}
 use Rattle.litmus_words.specs.declared.word.Word.{Word}
 use Rattle.litmus_words.specs.declared.word.Token.{Token}
-use Rattle.litmus_words.specs.declared.word.Token.TheVariants.{Mark, Name, Number, Type}
+use Rattle.litmus_words.specs.declared.word.Token.TheVariants.{Mark, Name, Number}
+use Rattle.litmus_words.specs.declared.word.Token.TheVariants as token
 use Rattle.litmus_words.specs.declared.word.Mark.TheVariants as mark
 use Rattle.litmus_words.specs.Bytes.{same_bytes}
 use Rattle.litmus_reading.specs.Rows.{ended_by, is_semicolon}
@@ -11,19 +12,19 @@ use Rattle.litmus_reading.specs.declared.declarations.Declaration.{Declaration}
 
 abbrev pub is_name : Token → Bool
 is_name Name = true
-is_name token = false
+is_name one = false
 
 abbrev pub is_type : Token → Bool
-is_type (Type number_type) = true
-is_type token = false
+is_type (token.Type number_type) = true
+is_type one = false
 
 abbrev pub is_star : Token → Bool
 is_star (Mark mark.Star) = true
-is_star token = false
+is_star one = false
 
 abbrev pub is_bracket : Token → Bool
 is_bracket (Mark mark.LeftBracket) = true
-is_bracket token = false
+is_bracket one = false
 
 -- Whether words begin so, and what stands behind that, if they do.
 abbrev pub begins : (Token → Bool) → List Word → Bool
@@ -36,8 +37,8 @@ behind_one is (word ∷ words) = if is word.token then words else word ∷ words
 
 -- The type that stands first; `int` where none does.
 abbrev pub type_of_token : Token → NumberType
-type_of_token (Type number_type) = number_type
-type_of_token token = int
+type_of_token (token.Type number_type) = number_type
+type_of_token one = int
 
 abbrev pub type_before : List Word → NumberType
 type_before [] = int
@@ -46,7 +47,7 @@ type_before (word ∷ words) = type_of_token word.token
 -- `[2]` behind the name of an array.
 abbrev pub number_in : Token → Option ℕ
 number_in (Number number) = Some number
-number_in token = None
+number_in one = None
 
 abbrev pub elements_in : List Word → Option ℕ
 elements_in (bracket ∷ number ∷ words) = if is_bracket bracket.token then number_in number.token else None

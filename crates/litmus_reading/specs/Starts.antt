@@ -7,7 +7,8 @@ use Rattle.litmus_tests.specs.declared.test.RegisterStart.{RegisterStart}
 use Rattle.litmus_tests.specs.{declared.number_type.NumberType.NumberType, Locations.int}
 use Rattle.litmus_words.specs.declared.word.{Word.Word, Declared.Declared}
 use Rattle.litmus_words.specs.declared.word.Token.{Token}
-use Rattle.litmus_words.specs.declared.word.Token.TheVariants.{Register as register_token, Location as location_token, Number, Mark, Type}
+use Rattle.litmus_words.specs.declared.word.Token.TheVariants.{Register as register_token, Location as location_token, Number, Mark}
+use Rattle.litmus_words.specs.declared.word.Token.TheVariants as token
 use Rattle.litmus_words.specs.declared.word.Mark.TheVariants as mark
 use Rattle.litmus_words.specs.Parts.{index_tokens, SpellsValue}
 use Rattle.litmus_words.specs.Tokens.{Takes}
@@ -19,7 +20,7 @@ use Rattle.litmus_reading.specs.Names.{elements_of}
 
 -- What may stand before an entry: a type, and a `*` behind it.
 abbrev pub SpellsType : List Token → NumberType → Type 0
-SpellsType text number_type = ((text ≡ []) × (number_type ≡ int)) ⊎ (text ≡ Type number_type ∷ [])
+SpellsType text number_type = ((text ≡ []) × (number_type ≡ int)) ⊎ (text ≡ token.Type number_type ∷ [])
 
 abbrev pub SpellsStar : List Token → Bool → Type 0
 SpellsStar text is_pointer = ((text ≡ []) × (is_pointer ≡ false))

@@ -112,7 +112,7 @@ fn read_array<'a>(
 
 /// Reads `[2]`, how many elements there are.
 fn read_count(given: Given, words: &[Word], end: usize) -> Result<&[Word], Stop>
-    ensures { IfOk result (CountTaken words.now) }
+    ensures { IfOk result (λ rest. CountTaken words.now rest.now) }
 {
     let rest = mark(words, Mark::LeftBracket, end)?;
     let at = start_of(rest, end);

@@ -165,7 +165,8 @@ fn read_locations<'a>(
     words: &'a [Word],
     listed: &mut Listed,
 ) -> Result<&'a [Word], Stop>
-    ensures { IfOk result (ListTaken words.now listed.new.observed.items listed.new.whole.items) }
+    ensures { IfOk result (λ rest.
+        ListTaken words.now listed.new.observed.items listed.new.whole.items rest.now) }
 {
     let behind = mark(words, Mark::Locations, asked.end)?;
     let inside = mark(behind, Mark::LeftBracket, asked.end)?;
@@ -182,7 +183,8 @@ fn read_items<'a>(
 ) -> Result<&'a [Word], Stop>
     requires observed { listed.old.observed.items ≡ [] }
     requires whole { listed.old.whole.items ≡ [] }
-    ensures { IfOk result (ListedTaken words.now listed.new.observed.items listed.new.whole.items) }
+    ensures { IfOk result (λ rest.
+        ListedTaken words.now listed.new.observed.items listed.new.whole.items rest.now) }
 {
     let mut rest = words;
     while !begins_with(rest, Mark::RightBracket) {
@@ -203,8 +205,8 @@ fn read_item<'a>(
     words: &'a [Word],
     listed: &mut Listed,
 ) -> Result<&'a [Word], Stop>
-    ensures { IfOk result (ItemTaken words.now listed.old.observed.items listed.old.whole.items
-        listed.new.observed.items listed.new.whole.items) }
+    ensures { IfOk result (λ rest. ItemTaken words.now listed.old.observed.items listed.old.whole.items
+        listed.new.observed.items listed.new.whole.items rest.now) }
 {
     if let Some((declared, behind)) = whole_array(words) {
         list_elements(declared, &mut listed.observed)?;
