@@ -1,5 +1,5 @@
 -- Rows and cells, by cuts at their marks.
-use Rattle.std.proofs.Common.{◌≡◌, ◌≢◌, ℕ, zero, suc, ◌+◌, ◌-◌, ◌<◌, Bool, true, false, if◌then◌else◌, List, [], ◌∷◌, ◌++◌, length, map}
+use Rattle.std.proofs.Common.{◌≡◌, ◌≢◌, ℕ, zero, suc, ◌+◌, ◌-◌, ◌<◌, Bool, true, false, if◌then◌else◌, List, [], ◌∷◌, ◌++◌, length, map, get_or, drop}
 use Rattle.std.proofs.Common.{refl, sym, ap, ◌∙◌, subst, inl, inr, arith, true≢false, pos_of_ne-zero}
 use Rattle.std.specs.Prelude.{◌⊎◌, slice_index_or}
 use Rattle.std.proofs.lemmas.List.Elements.{All-head, All-tail}
@@ -9,6 +9,7 @@ use Rattle.litmus_words.specs.declared.word.Token.TheVariants.{Mark as mark_toke
 use Rattle.litmus_words.specs.declared.word.Mark.{Mark}
 use Rattle.litmus_words.specs.declared.word.Mark.TheVariants as mark
 use Rattle.litmus_words.specs.Cuts.{IsCut, LacksMark}
+use Rattle.litmus_reading.proofs.Naming.{drop_here}
 use Rattle.litmus_reading.specs.Rows.{is_bar, is_semicolon, onto_first, ended_by, parted_by, cell_at, column_of}
 
 pub is_false : (b : Bool) → (b ≡ true → ⊥) → b ≡ false
@@ -111,6 +112,20 @@ same_column word words other =
     ap (λ (b : Bool). length (if b then [] ∷ parted_by is_bar words else onto_first word (parted_by is_bar words)))
     (is_false (is_bar word.token) (λ e. other (bar_is word.token e)))
     ∙ onto_length word (parted_by is_bar words) (some_part is_bar words)
+
+pub same_columns : (word : Word) (words : List Word) → word.token ≢ mark_token mark.Bar
+    → length (parted_by is_bar (word ∷ words)) ≡ length (parted_by is_bar words) + 0
+same_columns word words other =
+    let same = same_column word words other in omega (arith, same)
+
+pub columns_more : (row : List Word) (i columns n total : ℕ) (d : Word) → i < length row
+    → ((words : List Word) → length (parted_by is_bar (get_or row i d ∷ words)) ≡ length (parted_by is_bar words) + n)
+    → columns + length (parted_by is_bar (drop i row)) ≡ total
+    → columns + n + length (parted_by is_bar (drop (i + 1) row)) ≡ total
+columns_more row i columns n total d inside parts so_far =
+    let here : length (parted_by is_bar (drop i row)) ≡ length (parted_by is_bar (drop (i + 1) row)) + n =
+    ap (λ (t : List Word). length (parted_by is_bar t)) (drop_here row i d inside) ∙ parts (drop (i + 1) row) in
+    omega (arith, here, so_far)
 
 past_all : (n : ℕ) → slice_index_or (([] {A = Word}) ∷ []) n [] ≡ []
 past_all zero = refl

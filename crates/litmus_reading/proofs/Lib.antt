@@ -3,6 +3,7 @@ pub mod Columns
 pub mod Conditions
 pub mod Declaring
 pub mod Entries
+pub mod Giving
 pub mod Listing
 pub mod Looking
 pub mod Naming

@@ -1,6 +1,7 @@
 //! The harts, and the rows below them.
 
-ghost use Rattle.std.specs.Prelude.{◌≡◌, length, IfOk, OnOk};
+ghost use Rattle.std.specs.Prelude.{◌≡◌, ◌≤◌, ◌+◌, ◌∷◌, List, length, IfOk, OnOk};
+ghost use Rattle.litmus_words.specs.declared.word.Word.{Word as AnyWord};
 ghost use Rattle.litmus_reading.specs.Rows.{cell_at, is_bar, parted_by};
 ghost use Rattle.litmus_reading.specs.Texts.{IsHead, IsHeadRow, IsTable};
 
@@ -82,11 +83,21 @@ pub(crate) fn columns_of(row: &[Word]) -> usize
 {
     let mut columns = 1;
     for word in row {
-        if is_mark(*word, Mark::Bar) {
-            columns += 1;
-        }
+        columns += bars_in(*word);
     }
     columns
+}
+
+/// 1 of a bar, which begins another column.
+fn bars_in(word: Word) -> usize
+    ensures few { result ≤ 1 }
+    ensures parts { (words : List AnyWord) → length (parted_by is_bar (word ∷ words))
+        ≡ length (parted_by is_bar words) + result }
+{
+    if is_mark(word, Mark::Bar) {
+        return 1;
+    }
+    0
 }
 
 /// The cell of a row in the column of a hart.

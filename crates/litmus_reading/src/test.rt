@@ -121,8 +121,9 @@ fn closing(words: &[Word]) -> Option<usize>
 {
     let mut depth = 0_usize;
     for place in 0..words.len() {
-        let Some(next) = open_behind(words, place, depth) else {
-            return Some(place);
+        let next = match open_behind(words, place, depth) {
+            Some(next) => next,
+            None => return Some(place),
         };
         depth = next;
     }

@@ -15,7 +15,7 @@ loop-place-preserved c = record {
       (c.in-Some.ensures.after some);
 }
 
-pub returns-in_default-clause-closes : goal.returns-in_default-clause-closes
-returns-in_default-clause-closes c =
-    closed_at c.args.words.now c.loop-place.place _ some c.loop-place-test.true (c.open_behind.ensures.after some)
+pub returns-in-None-clause-closes : goal.returns-in-None-clause-closes
+returns-in-None-clause-closes c =
+    closed_at c.args.words.now c.loop-place.place _ some c.loop-place-test.true (c.in-None.ensures.after some)
     c.loop-place.invariant.after
