@@ -239,7 +239,7 @@ pub(crate) fn starts_of(
 {
     let mut starts = Vec::new(alloc);
     for register in 1..32 {
-        add_start(entries, u32::from(hart), register, &mut starts)?;
+        add_start(entries, hart, register, &mut starts)?;
     }
     Ok(starts)
 }
@@ -247,13 +247,13 @@ pub(crate) fn starts_of(
 /// Adds what is said of a register.
 fn add_start(
     entries: &[Entry],
-    hart: u32,
+    hart: u8,
     register: Reg,
     starts: &mut Vec<RegisterStart>,
 ) -> Result<(), Stop>
     ensures { OnOk result (starts.new.items ≡ starts.old.items ++ start_at entries.now hart register) }
 {
-    if let Some(value) = start_in(entries, hart, register) {
+    if let Some(value) = start_in(entries, u32::from(hart), register) {
         starts.push(RegisterStart { register, value })?;
     }
     Ok(())

@@ -12,7 +12,7 @@ returns c =
     sym (c.loop-name.invariant ∙ not_named c.args.text.now c.args.names.now c.args.word c.loop-name.name-index
     c.loop-name-test.false)
 
-pub returns-in-if-same_bytes : goal.returns-in-if-same_bytes
-returns-in-if-same_bytes c =
+pub returns-then-same_bytes : goal.returns-then-same_bytes
+returns-then-same_bytes c =
     sym (c.loop-name.invariant ∙ named_here c.args.text.now c.args.names.now c.args.word c.loop-name.name-index _
     c.loop-name-test.true (sym c.same_bytes.ensures ∙ c.if-same_bytes.true))

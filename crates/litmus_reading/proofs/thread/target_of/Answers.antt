@@ -12,7 +12,7 @@ returns c =
     sym (c.loop-label.invariant ∙ no_target c.args.text.now c.args.labels.now c.args.word c.loop-label.label-index
     c.loop-label-test.false)
 
-pub returns-in-if-same_bytes : goal.returns-in-if-same_bytes
-returns-in-if-same_bytes c =
+pub returns-then-same_bytes : goal.returns-then-same_bytes
+returns-then-same_bytes c =
     sym (c.loop-label.invariant ∙ target_here c.args.text.now c.args.labels.now c.args.word c.loop-label.label-index _
     c.loop-label-test.true (sym c.same_bytes.ensures ∙ c.if-same_bytes.true))
