@@ -1,10 +1,10 @@
 use Rattle.litmus_reading.proofs.Entries.{bracketed_name, plain_name}
 use Rattle.litmus_reading.proofs.start.read_name.Goals as goal
 
-pub returns-in-Some : goal.returns-in-Some
-returns-in-Some c =
+pub returns-in_ok-rest-in-Some : goal.returns-in_ok-rest-in-Some
+returns-in_ok-rest-in-Some c =
     bracketed_name _ _ _ _ _ c.in-Some.ensures.spelled c.in_ok-name.ensures c.in_ok-rest.ensures.spelled
 
-pub returns-in-None : goal.returns-in-None
-returns-in-None c =
+pub returns-in_ok-name-in-None : goal.returns-in_ok-name-in-None
+returns-in_ok-name-in-None c =
     plain_name _ _ _ c.in_ok-name-2.ensures
