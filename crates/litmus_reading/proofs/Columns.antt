@@ -46,9 +46,11 @@ counted steps after cell added =
 append_once : (text : List ℕ) (before a b : List Label) → AreOnce text before a → AreOnce text (before ++ a) b
     → AreOnce text before (a ++ b)
 append_once text before [] b h k = subst (λ (t : List Label). AreOnce text t b) (append-nil before) k
-append_once text before (l ∷ a) b h k =
-    (h.0, append_once text (before ++ l ∷ []) a b h.1
-    (subst (λ (t : List Label). AreOnce text t b) (sym (append_assoc before (l ∷ []) a)) k))
+append_once text before (l ∷ a) b h k = (
+  h.0,
+  append_once text (before ++ l ∷ []) a b h.1
+      (subst (λ (t : List Label). AreOnce text t b) (sym (append_assoc before (l ∷ []) a)) k),
+)
 
 pub once_more : (text : List ℕ) (all : List Label) (column cells : List (List Word)) (cell : List Word)
     (steps after : List Written) (labels later : List Label) → column ≡ cell ∷ cells

@@ -132,13 +132,16 @@ pub empty_array : (declared : Declared) (words rest : List Word) (before after :
 empty_array declared words rest before after array count is = record {
   text = count.text ++ [];
   values = value.Number 0 ∷ [];
-  spells = inr (array, record {
-    count = count.text;
-    held = [];
-    spelled = refl;
-    counted = count.spells;
-    holds = inl (refl, refl);
-  });
+  spells = inr (
+    array,
+    record {
+      count = count.text;
+      held = [];
+      spelled = refl;
+      counted = count.spells;
+      holds = inl (refl, refl);
+    },
+  );
   added = is;
   takes = subst (λ (t : List Token). Takes words t rest) (sym (append-nil count.text)) count.takes;
 }
@@ -150,13 +153,16 @@ pub filled_array : (declared : Declared) (words a b c rest : List Word) (before 
 filled_array declared words a b c rest before after array count equals left held = record {
   text = count.text ++ Mark mark.Equals ∷ Mark mark.LeftBrace ∷ held.text;
   values = held.values;
-  spells = inr (array, record {
-    count = count.text;
-    held = Mark mark.Equals ∷ Mark mark.LeftBrace ∷ held.text;
-    spelled = refl;
-    counted = count.spells;
-    holds = inr (record { inner = held.text; spelled = refl; elements = held.spells; few = held.few });
-  });
+  spells = inr (
+    array,
+    record {
+      count = count.text;
+      held = Mark mark.Equals ∷ Mark mark.LeftBrace ∷ held.text;
+      spelled = refl;
+      counted = count.spells;
+      holds = inr (record { inner = held.text; spelled = refl; elements = held.spells; few = held.few });
+    },
+  );
   added = held.added;
   takes = one_behind_another words a rest count.text (Mark mark.Equals ∷ Mark mark.LeftBrace ∷ held.text) count.takes
       (one_behind_another a b rest (Mark mark.Equals ∷ []) (Mark mark.LeftBrace ∷ held.text) equals

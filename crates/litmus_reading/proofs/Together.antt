@@ -26,26 +26,26 @@ pub of_words : (text : List ℕ) (names : List Named) (words inside behind below
     → AreThreads text rows entries 0 test.threads.items → IsOfWords text names words test
 of_words text names words inside behind below rows asked entries listed whole harts count test braced start heads
     parted question locations many observed memory threads are = record {
-  inside = inside;
-  behind = behind;
-  below = below;
-  rows = rows;
-  asked = asked;
-  entries = entries;
-  listed = listed;
-  whole = whole;
-  braced = braced;
-  start = start;
-  heads = subst (λ (n : ℕ). IsHeadRow behind n below) (sym threads) heads;
-  parted = subst (λ (n : ℕ). IsTable n below rows asked) (sym threads) parted;
-  memory = memory;
-  locations = locations;
-  threads = are;
-  question = question;
-  observed = observed
-      ∙ ap (λ (n : ℕ). looked_at test.condition test.filter listed n count) (sym threads)
-      ∙ ap (λ (n : ℕ). looked_at test.condition test.filter listed (length test.threads.items) n) many;
-}
+      inside = inside;
+      behind = behind;
+      below = below;
+      rows = rows;
+      asked = asked;
+      entries = entries;
+      listed = listed;
+      whole = whole;
+      braced = braced;
+      start = start;
+      heads = subst (λ (n : ℕ). IsHeadRow behind n below) (sym threads) heads;
+      parted = subst (λ (n : ℕ). IsTable n below rows asked) (sym threads) parted;
+      memory = memory;
+      locations = locations;
+      threads = are;
+      question = question;
+      observed = observed
+          ∙ ap (λ (n : ℕ). looked_at test.condition test.filter listed n count) (sym threads)
+          ∙ ap (λ (n : ℕ). looked_at test.condition test.filter listed (length test.threads.items) n) many;
+    }
 
 -- of a text
 pub of_text : (text name : List ℕ) (from : ℕ) (words inside behind located : List Word) (names : List Named)

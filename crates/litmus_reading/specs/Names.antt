@@ -54,7 +54,7 @@ new_names text inside names next [] = []
 new_names text inside names next (word ∷ words) =
     if is_new text names word
     then name_at text inside next word ∷ new_names text inside (names ++ name_at text inside next word ∷ [])
-        (behind (declared_at next (declaration_of text inside word))) words
+    (behind (declared_at next (declaration_of text inside word))) words
     else new_names text inside names next words
 
 abbrev pub names_in : List ℕ → List Word → List Named

@@ -50,7 +50,12 @@ fn add_registers(
         question.now.filter question.now.listed.observed.items (registers_from 31 hart 1)) }
 {
     for register in 1..32 {
-        add_named(question, Observed::Register { hart, register }, observed, at)?;
+        add_named(
+            question,
+            Observed::Register { hart, register },
+            observed,
+            at,
+        )?;
     }
     Ok(())
 }

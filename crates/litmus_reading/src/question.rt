@@ -176,11 +176,7 @@ fn read_locations<'a>(
 }
 
 /// Reads `0:x7; x;]`.
-fn read_items<'a>(
-    asked: &Asked,
-    words: &'a [Word],
-    listed: &mut Listed,
-) -> Result<&'a [Word], Stop>
+fn read_items<'a>(asked: &Asked, words: &'a [Word], listed: &mut Listed) -> Result<&'a [Word], Stop>
     requires observed { listed.old.observed.items ≡ [] }
     requires whole { listed.old.whole.items ≡ [] }
     ensures { IfOk result (λ rest.
@@ -200,11 +196,7 @@ fn read_items<'a>(
 }
 
 /// Reads what is listed: an array as a whole, or what a term looks at too.
-fn read_item<'a>(
-    asked: &Asked,
-    words: &'a [Word],
-    listed: &mut Listed,
-) -> Result<&'a [Word], Stop>
+fn read_item<'a>(asked: &Asked, words: &'a [Word], listed: &mut Listed) -> Result<&'a [Word], Stop>
     ensures { IfOk result (λ rest. ItemTaken words.now listed.old.observed.items listed.old.whole.items
         listed.new.observed.items listed.new.whole.items rest.now) }
 {

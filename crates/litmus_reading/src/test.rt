@@ -31,8 +31,8 @@ use crate::thread::read_steps;
 use litmus_tests::test::MOST_LOCATIONS;
 use litmus_tests::{Element, LitmusTest, Location, Thread, Width};
 use litmus_words::{
-    Declared, Fault, MOST_BYTES, Mark, ReadingRefused, Shown, Stop, Token, Word, bytes_of,
-    is_mark, name_end, next, place_of, start_of, words_of,
+    Declared, Fault, MOST_BYTES, Mark, ReadingRefused, Shown, Stop, Token, Word, bytes_of, is_mark,
+    name_end, next, place_of, start_of, words_of,
 };
 use std::alloc::Global;
 use std::str;
