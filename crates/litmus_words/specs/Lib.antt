@@ -1,4 +1,5 @@
 pub mod Answered
+pub mod Bytes
 pub mod Comments
 pub mod Cuts
 pub mod Gaps

@@ -31,4 +31,4 @@ pub use take::{
     address, begins_with, behind_mark, declared, location, mark, natural, next, nothing, number,
     register, register_but_zero, start_of, value, word_number,
 };
-pub use word::{Declared, Mark, Token, Word, bytes_of, is_mark};
+pub use word::{Declared, Mark, Token, Word, bytes_of, is_mark, same_bytes};
