@@ -57,7 +57,7 @@ pub fn perform_litmus<G: Gate, S: EndFiles, W: Write>(
 }
 
 /// The test that a text is.
-fn test_of(text: &[u8], alloc: Global) -> Result<LitmusTest, Refused>
+pub(crate) fn test_of(text: &[u8], alloc: Global) -> Result<LitmusTest, Refused>
     ensures sound { IfOk result IsWellFormed }
     ensures refused { IfErr result (IsTextRefusal text.now) }
 {
@@ -180,7 +180,7 @@ fn draw_and_print<S: EndFiles, W: Write>(
 }
 
 /// Whether there is a state from which no order leads on to an end.
-fn can_be_stuck(outcomes: &Outcomes, alloc: Global) -> Result<bool, Refused>
+pub(crate) fn can_be_stuck(outcomes: &Outcomes, alloc: Global) -> Result<bool, Refused>
     requires { outcomes.now.extent ≡ Whole }
     ensures stuck { IfOk result (λ is_stuck. is_stuck ≡ is_some outcomes.now.stuck) }
     ensures refused { IfErr result (λ reason. reason ≡ Memory) }

@@ -1,0 +1,56 @@
+-- The last line of a suite. (This project's own choice.)
+use Rattle.std.specs.Prelude.{ℕ, ◌+◌, ◌%◌, ◌^◌, ◌==◌, ◌&&◌, if◌then◌else◌, List, ◌++◌, codes}
+use Rattle.std.specs.{Fmt.decimal}
+use Rattle.litmus_suites.specs.declared.counts.Counts.{Counts}
+use Rattle.litmus_suites.specs.declared.counts.Differences.{Differences}
+use Rattle.litmus_suites.specs.declared.expectation.Met.{Met}
+use Rattle.litmus_suites.specs.declared.expectation.Met.TheVariants.{Same, Changed, New}
+use Rattle.litmus_suites.specs.declared.verdict.Verdict.{Verdict}
+use Rattle.litmus_suites.specs.declared.verdict.Verdict.TheVariants.{Whole, NotComplete}
+
+-- One more, as it is counted in 64 bits, and two counts together.
+abbrev pub sum : ℕ → ℕ → ℕ
+sum one other = (one + other) % 2 ^ 64
+
+abbrev pub more : ℕ → ℕ
+more count = sum count 1
+
+-- One more test of which this is said, and one that is refused.
+abbrev pub counted : Verdict → Counts → Counts
+counted (Whole states stuck) counts = if states.is_as_asked then record counts { as_asked = more counts.as_asked }
+    else record counts { otherwise = more counts.otherwise }
+counted NotComplete counts = record counts { not_complete = more counts.not_complete }
+
+abbrev pub counted_refused : Counts → Counts
+counted_refused counts = record counts { refused = more counts.refused }
+
+abbrev pub all_of : Counts → ℕ
+all_of counts = sum (sum (sum counts.as_asked counts.otherwise) counts.not_complete) counts.refused
+
+unfoldable pub counts_text : Counts → List ℕ
+counts_text counts = codes "tests " ++ (decimal (all_of counts) ++ (codes ": Ok " ++ (decimal counts.as_asked
+    ++ (codes ", No " ++ (decimal counts.otherwise ++ (codes ", not complete " ++ (decimal counts.not_complete
+    ++ (codes ", refused " ++ (decimal counts.refused ++ codes "\n")))))))))
+
+-- One more test that is this beside the line that it takes, and one that is refused.
+abbrev pub noted : Met → Differences → Differences
+noted Same differences = record differences { same = more differences.same }
+noted Changed differences = record differences { changed = more differences.changed }
+noted New differences = record differences { new = more differences.new }
+
+abbrev pub noted_refused : Differences → Differences
+noted_refused differences = record differences { refused = more differences.refused }
+
+-- The exit status is 1 where something differs.
+abbrev pub status_of : Differences → ℕ
+status_of differences =
+    if (differences.changed == 0 && differences.new == 0) && differences.gone == 0 then 0 else 1
+
+abbrev pub tests_of : Differences → ℕ
+tests_of differences = sum (sum (sum differences.same differences.changed) differences.new) differences.refused
+
+unfoldable pub differences_text : Differences → List ℕ
+differences_text differences = codes "tests " ++ (decimal (tests_of differences)
+    ++ (codes ": the same " ++ (decimal differences.same ++ (codes ", changed " ++ (decimal differences.changed
+    ++ (codes ", new " ++ (decimal differences.new ++ (codes ", not there " ++ (decimal differences.gone
+    ++ (codes ", refused " ++ (decimal differences.refused ++ codes "\n")))))))))))

@@ -1,0 +1,67 @@
+//! What is said of a litmus test in a line.
+
+use crate::litmus::{can_be_stuck, test_of};
+use crate::searching::find_shown;
+use actors::Gate;
+use command_parts::Refused;
+use litmus_images::{harts_of, image_of, watch_of};
+use litmus_suites::{TestLine, Verdict};
+use litmus_tests::LitmusTest;
+use litmus_text::verdict_of;
+use outcomes::{Extent, Outcomes};
+use shown_text::write_shown;
+use std::alloc::Global;
+
+/// The line of the litmus test that a text is, of which so many states are looked at the most. A text that is none is refused.
+pub(crate) fn summary_of<G: Gate>(
+    text: &[u8],
+    states: u32,
+    gate: &G,
+    alloc: Global,
+) -> Result<TestLine, Refused> {
+    let test = test_of(text, alloc)?;
+    let name = shown_name(&test, alloc)?;
+    let verdict = verdict_in(&test, states, gate, alloc)?;
+    Ok(TestLine { name, verdict })
+}
+
+/// The name of a test, as texts of an input are shown.
+fn shown_name(test: &LitmusTest, alloc: Global) -> Result<Vec<u8>, Refused> {
+    let mut name = Vec::new(alloc);
+    match write_shown(test.name.as_slice(), &mut name) {
+        Ok(()) => Ok(name),
+        Err(_) => Err(Refused::Memory),
+    }
+}
+
+/// What is said of a test. Its states are the outcomes of its image, for as many harts as it has.
+fn verdict_in<G: Gate>(
+    test: &LitmusTest,
+    states: u32,
+    gate: &G,
+    alloc: Global,
+) -> Result<Verdict, Refused> {
+    let Ok(image) = image_of(test, alloc) else {
+        return Err(Refused::Memory);
+    };
+    let watch = watch_of(test);
+    match find_shown(&image, harts_of(test), &watch, states, gate, &(), alloc) {
+        Ok(outcomes) => match outcomes.extent() {
+            Extent::Whole => whole_verdict(test, &outcomes, alloc),
+            Extent::Beyond | Extent::First => Ok(Verdict::NotComplete),
+        },
+        // The harts, registers and words of a test that makes sense are there.
+        Err(_) => Err(Refused::Memory),
+    }
+}
+
+/// What is said of a test whose states are all.
+fn whole_verdict(
+    test: &LitmusTest,
+    outcomes: &Outcomes,
+    alloc: Global,
+) -> Result<Verdict, Refused> {
+    let states = verdict_of(test, outcomes);
+    let is_stuck = can_be_stuck(outcomes, alloc)?;
+    Ok(Verdict::Whole { states, is_stuck })
+}

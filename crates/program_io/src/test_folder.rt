@@ -1,0 +1,119 @@
+//! The tests of a folder, by the names of their files.
+
+use crate::files::{read_to_end, unopened};
+use crate::test_names::{Absent, is_folder};
+use litmus_suites::NoTest;
+use std::alloc::{AllocError, Global};
+use std::rt::Files;
+use text_fields::split_field;
+
+/// The most bytes that the names in a folder may have together: 1 GiB.
+const MOST_BYTES: u64 = 0x4000_0000;
+
+/// What the name of a test ends in, in a folder.
+const ENDING: &[u8] = b".litmus";
+
+/// A folder of which not all tests are taken.
+#[derive(Drop)]
+pub(crate) struct TestFolder {
+    /// Its path, with a slash behind it.
+    path: String,
+    /// The names of its tests, in the order of their bytes.
+    names: Vec<Vec<u8>>,
+    /// How many of them are taken.
+    taken: usize,
+}
+
+impl TestFolder {
+    /// Reads the names in a folder. Refused where none is of a test.
+    pub(crate) fn open<S: Files>(system: &S, path: &str, alloc: Global) -> Result<Self, Absent> {
+        let Ok(with_slash) = with_slash(path, alloc) else {
+            return Err(Absent::for_memory(alloc));
+        };
+        let listing = match system.open_dir(with_slash.as_str()) {
+            Ok(listing) => listing,
+            Err(error) => return Err(Absent::unread(path, unopened(&error), alloc)),
+        };
+        let all = match read_to_end(listing, MOST_BYTES, alloc) {
+            Ok(all) => all,
+            Err(refused) => return Err(Absent::unread(path, refused, alloc)),
+        };
+        match tests_among(all.as_slice(), alloc) {
+            Ok(names) if names.is_empty() => {
+                Err(Absent::at(path.as_bytes(), NoTest::Empty, None, alloc))
+            }
+            Ok(names) => Ok(TestFolder {
+                path: with_slash,
+                names,
+                taken: 0,
+            }),
+            Err(AllocError) => Err(Absent::for_memory(alloc)),
+        }
+    }
+
+    /// The path of the next test; none behind the last. A folder with such a name is none.
+    pub(crate) fn next_path<S: Files>(
+        &mut self,
+        system: &S,
+        alloc: Global,
+    ) -> Option<Result<String, Absent>> {
+        for _turn in 0..u64::MAX {
+            let name = self.names.get(self.taken)?;
+            self.taken = self.taken.saturating_add(1);
+            match self.path_of(name.as_slice(), alloc) {
+                Ok(path) if is_folder(system, path.as_str()) => {}
+                other => return Some(other),
+            }
+        }
+        None
+    }
+
+    /// The path of the file with this name. One that is no text can't be read.
+    fn path_of(&self, name: &[u8], alloc: Global) -> Result<String, Absent> {
+        match joined(self.path.as_str(), name, alloc) {
+            Ok(path) => match String::from_utf8(path) {
+                Ok(path) => Ok(path),
+                Err(error) => Err(Absent {
+                    path: error.into_bytes(),
+                    why: NoTest::File,
+                    cause: None,
+                }),
+            },
+            Err(AllocError) => Err(Absent::for_memory(alloc)),
+        }
+    }
+}
+
+fn joined(folder: &str, name: &[u8], alloc: Global) -> Result<Vec<u8>, AllocError> {
+    let mut path = Vec::from_slice(alloc, folder.as_bytes())?;
+    path.extend_from_slice(name)?;
+    Ok(path)
+}
+
+fn with_slash(path: &str, alloc: Global) -> Result<String, AllocError> {
+    let mut with_slash = String::from_str(alloc, path)?;
+    if !path.ends_with('/') {
+        with_slash.push_str("/")?;
+    }
+    Ok(with_slash)
+}
+
+/// Of names with a zero byte behind each those of tests, in their order.
+fn tests_among(names: &[u8], alloc: Global) -> Result<Vec<Vec<u8>>, AllocError> {
+    let mut tests = Vec::new(alloc);
+    let mut left = names;
+    while !left.is_empty() {
+        let (name, behind) = split_field(left, 0);
+        if is_of_test(name) {
+            tests.push(Vec::from_slice(alloc, name)?)?;
+        }
+        left = behind;
+    }
+    tests.sort()?;
+    Ok(tests)
+}
+
+/// Whether a name is one that a shell's `*.litmus` takes.
+fn is_of_test(name: &[u8]) -> bool {
+    name.ends_with(ENDING) && !name.starts_with(b".")
+}
