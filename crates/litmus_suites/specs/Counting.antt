@@ -1,5 +1,5 @@
 -- The last line of a suite. (This project's own choice.)
-use Rattle.std.specs.Prelude.{ℕ, ◌+◌, ◌%◌, ◌^◌, ◌==◌, ◌&&◌, if◌then◌else◌, List, ◌++◌, codes}
+use Rattle.std.specs.Prelude.{ℕ, Bool, true, false, ◌+◌, ◌%◌, ◌^◌, ◌==◌, ◌&&◌, if◌then◌else◌, List, ◌++◌, codes}
 use Rattle.std.specs.{Fmt.decimal}
 use Rattle.litmus_suites.specs.declared.counts.Counts.{Counts}
 use Rattle.litmus_suites.specs.declared.counts.Differences.{Differences}
@@ -16,9 +16,12 @@ abbrev pub more : ℕ → ℕ
 more count = sum count 1
 
 -- One more test of which this is said, and one that is refused.
+abbrev pub counted_whole : Bool → Counts → Counts
+counted_whole true counts = record counts { as_asked = more counts.as_asked }
+counted_whole false counts = record counts { otherwise = more counts.otherwise }
+
 abbrev pub counted : Verdict → Counts → Counts
-counted (Whole states stuck) counts = if states.is_as_asked then record counts { as_asked = more counts.as_asked }
-    else record counts { otherwise = more counts.otherwise }
+counted (Whole states stuck) counts = counted_whole states.is_as_asked counts
 counted NotComplete counts = record counts { not_complete = more counts.not_complete }
 
 abbrev pub counted_refused : Counts → Counts
@@ -54,3 +57,10 @@ differences_text differences = codes "tests " ++ (decimal (tests_of differences)
     ++ (codes ": the same " ++ (decimal differences.same ++ (codes ", changed " ++ (decimal differences.changed
     ++ (codes ", new " ++ (decimal differences.new ++ (codes ", not there " ++ (decimal differences.gone
     ++ (codes ", refused " ++ (decimal differences.refused ++ codes "\n")))))))))))
+
+-- The counts of no test.
+abbrev pub no_counts : Counts
+no_counts = record { as_asked = 0; otherwise = 0; not_complete = 0; refused = 0 }
+
+abbrev pub no_differences : Differences
+no_differences = record { same = 0; changed = 0; new = 0; gone = 0; refused = 0 }

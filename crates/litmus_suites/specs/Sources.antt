@@ -7,7 +7,7 @@ use Rattle.litmus_suites.specs.declared.source.NoTest.TheVariants as no_test
 abbrev pub GivenTest : Type 0
 GivenTest = Result (List ℕ) NoTest
 
-abbrev text_of : {A : Type 0} → Result (Vec ℕ A) NoTest → GivenTest
+abbrev pub text_of : {A : Type 0} → Result (Vec ℕ A) NoTest → GivenTest
 text_of (Ok text) = Ok text.items
 text_of (Err why) = Err why
 

@@ -1,5 +1,5 @@
 -- The exit status of several tests. (This project's own choice.)
-use Rattle.std.specs.Prelude.{ℕ, ◌==◌, nat_lt, if◌then◌else◌, List, fold}
+use Rattle.std.specs.Prelude.{ℕ, ◌==◌, nat_lt, if◌then◌else◌, List, [], ◌∷◌}
 
 -- How bad an exit status is: 0 is no fault, 1 a difference, 3 a test with too many states, 2 an input that is refused, 4 a
 -- trace, 5 memory, files and the output.
@@ -10,6 +10,7 @@ badness status = if status == 0 then 0 else if status == 1 then 1 else if status
 abbrev pub worse : ℕ → ℕ → ℕ
 worse one other = if nat_lt (badness one) (badness other) then other else one
 
--- The worst of several; 0 of none.
+-- The worst of several, the newest first; 0 of none.
 abbrev pub worst : List ℕ → ℕ
-worst statuses = fold worse 0 statuses
+worst [] = 0
+worst (status ∷ past) = worse (worst past) status

@@ -1,5 +1,10 @@
 //! The last line of a suite: how many tests came to what.
 
+ghost use Rattle.std.specs.Prelude.{◌≡◌, OnOk};
+ghost use Rattle.std.specs.Io.KnownBytes.{Appends};
+ghost use Rattle.litmus_suites.specs.Counting.{all_of, counted, counted_refused, counted_whole, counts_text, differences_text};
+ghost use Rattle.litmus_suites.specs.Counting.{noted, noted_refused, status_of, sum, tests_of};
+
 use crate::expectation::Met;
 use crate::verdict::Verdict;
 use arrayvec::ArrayString;
@@ -33,31 +38,51 @@ impl Counts {
     };
 
     /// Counts one more, of which this is said.
-    pub fn count(&mut self, verdict: Verdict) {
+    pub fn count(&mut self, verdict: Verdict)
+        ensures { self.new ≡ counted verdict self.old }
+    {
         match verdict {
-            Verdict::Whole { states, .. } if states.is_as_asked => {
-                self.as_asked = self.as_asked.wrapping_add(1);
-            }
-            Verdict::Whole { .. } => self.otherwise = self.otherwise.wrapping_add(1),
-            Verdict::NotComplete => self.not_complete = self.not_complete.wrapping_add(1),
+            Verdict::Whole {
+                states,
+                is_stuck: _,
+            } => self.count_whole(states.is_as_asked),
+            Verdict::NotComplete => self.not_complete = sum(self.not_complete, 1),
+        }
+    }
+
+    /// Counts one more, whose states are as it asks, or not.
+    fn count_whole(&mut self, is_as_asked: bool)
+        ensures { self.new ≡ counted_whole is_as_asked self.old }
+    {
+        if is_as_asked {
+            self.as_asked = sum(self.as_asked, 1);
+        } else {
+            self.otherwise = sum(self.otherwise, 1);
         }
     }
 
     /// Counts one that is refused.
-    pub fn count_refused(&mut self) {
-        self.refused = self.refused.wrapping_add(1);
+    pub fn count_refused(&mut self)
+        ensures { self.new ≡ counted_refused self.old }
+    {
+        self.refused = sum(self.refused, 1);
     }
 
     /// How many there are.
-    fn all(&self) -> u64 {
-        self.as_asked
-            .wrapping_add(self.otherwise)
-            .wrapping_add(self.not_complete)
-            .wrapping_add(self.refused)
+    fn all(&self) -> u64
+        ensures { result ≡ all_of self.now }
+    {
+        sum(
+            sum(sum(self.as_asked, self.otherwise), self.not_complete),
+            self.refused,
+        )
     }
 
     /// Writes the last line of a summary.
-    pub fn write<W: Write>(&self, out: &mut W) -> io::Result<()> {
+    #[tactic(auto, unfolding(crate::specs::Counting::counts_text))]
+    pub fn write<W: Write>(&self, out: &mut W) -> io::Result<()>
+        ensures { OnOk result (Appends (W.contents out.old) (W.contents out.new) (counts_text self.now)) }
+    {
         let mut line = LastLine::new();
         line.push_str("tests ");
         push_decimal(&mut line, self.all());
@@ -100,21 +125,27 @@ impl Differences {
     };
 
     /// Counts one more test, which is this beside the line that it takes.
-    pub fn count(&mut self, met: Met) {
+    pub fn count(&mut self, met: Met)
+        ensures { self.new ≡ noted met self.old }
+    {
         match met {
-            Met::Same => self.same = self.same.wrapping_add(1),
-            Met::Changed => self.changed = self.changed.wrapping_add(1),
-            Met::New => self.new = self.new.wrapping_add(1),
+            Met::Same => self.same = sum(self.same, 1),
+            Met::Changed => self.changed = sum(self.changed, 1),
+            Met::New => self.new = sum(self.new, 1),
         }
     }
 
     /// Counts one that is refused.
-    pub fn count_refused(&mut self) {
-        self.refused = self.refused.wrapping_add(1);
+    pub fn count_refused(&mut self)
+        ensures { self.new ≡ noted_refused self.old }
+    {
+        self.refused = sum(self.refused, 1);
     }
 
     /// The exit status: 1 where something differs.
-    pub fn status(&self) -> u8 {
+    pub fn status(&self) -> u8
+        ensures { result ≡ status_of self.now }
+    {
         if self.changed == 0 && self.new == 0 && self.gone == 0 {
             0
         } else {
@@ -123,15 +154,17 @@ impl Differences {
     }
 
     /// How many tests there are.
-    fn all(&self) -> u64 {
-        self.same
-            .wrapping_add(self.changed)
-            .wrapping_add(self.new)
-            .wrapping_add(self.refused)
+    fn all(&self) -> u64
+        ensures { result ≡ tests_of self.now }
+    {
+        sum(sum(sum(self.same, self.changed), self.new), self.refused)
     }
 
     /// Writes the last line.
-    pub fn write<W: Write>(&self, out: &mut W) -> io::Result<()> {
+    #[tactic(auto, unfolding(crate::specs::Counting::differences_text))]
+    pub fn write<W: Write>(&self, out: &mut W) -> io::Result<()>
+        ensures { OnOk result (Appends (W.contents out.old) (W.contents out.new) (differences_text self.now)) }
+    {
         let mut line = LastLine::new();
         line.push_str("tests ");
         push_decimal(&mut line, self.all());
@@ -148,4 +181,11 @@ impl Differences {
         line.push_str("\n");
         out.write_all(line.as_bytes())
     }
+}
+
+/// Two counts together, as they are counted in 64 bits.
+fn sum(one: u64, other: u64) -> u64
+    ensures { result ≡ sum one other }
+{
+    one.wrapping_add(other)
 }

@@ -1,6 +1,6 @@
 //! What is said of a test in a line of a summary.
 
-ghost use Rattle.std.specs.Prelude.{◌≡◌, ◌≤◌, ◌++◌, OnOk, IfOk};
+ghost use Rattle.std.specs.Prelude.{◌≡◌, ◌≤◌, OnOk, codes};
 ghost use Rattle.std.specs.Io.KnownBytes.{Appends};
 ghost use Rattle.litmus_suites.specs.Lines.{asked_text, fits, line_text, stuck_text, verdict_text, whole_text};
 

@@ -33,4 +33,4 @@ pub use plain_rounds::{MOST_STEPS, perform_rounds, rounds_of};
 pub use schedule::perform_schedule;
 pub use settling::status_of_answer;
 pub use suite::perform_suite;
-pub use telling::Telling;
+pub use telling::{LineTelling, Telling};

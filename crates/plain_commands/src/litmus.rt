@@ -1,6 +1,6 @@
 //! The command `litmus`: every final state of a litmus test.
 
-ghost use Rattle.std.specs.Prelude.{◌≡◌, ◌++◌, IfOk, IfErr, OnOk, is_some, true, false};
+ghost use Rattle.std.specs.Prelude.{◌≡◌, ◌⊎◌, ◌++◌, IfOk, IfErr, OnOk, is_some, true, false};
 ghost use Rattle.std.specs.Io.KnownBytes.{Appends};
 ghost use Rattle.litmus_tests.specs.WellFormed.{IsWellFormed};
 ghost use Rattle.litmus_text.specs.States.{states_text};
@@ -42,6 +42,7 @@ pub fn perform_litmus<G: Gate, S: EndFiles, W: Write>(
     requires works { S.has_failed file.old ≡ false }
     requires finished { S.is_finished file.old ≡ true }
     ensures refused { IfErr result (IsLitmusRefusal text.now command.now) }
+    ensures unprinted { IfErr result (λ reason. (reason ≡ Output) ⊎ (W.contents out.new ≡ W.contents out.old)) }
     ensures ended { IfOk result (LitmusComesTo command.now (W.contents out.old) (W.contents out.new)) }
     ensures unwanted { is_some (written_for_test command.now) ≡ false → file.new ≡ file.old }
     ensures unbroken { OnOk result (S.has_failed file.new ≡ false) }
@@ -90,6 +91,7 @@ pub fn perform_test<G: Gate, S: EndFiles, W: Write>(
     requires works { S.has_failed file.old ≡ false }
     requires finished { S.is_finished file.old ≡ true }
     ensures refused { IfErr result (IsTestRefusal command.now) }
+    ensures unprinted { IfErr result (λ reason. (reason ≡ Output) ⊎ (W.contents out.new ≡ W.contents out.old)) }
     ensures ended { IfOk result (TestComesTo test.now command.now
         (W.contents out.old) (W.contents out.new)) }
     ensures unwanted { is_some (written_for_test command.now) ≡ false → file.new ≡ file.old }
@@ -167,6 +169,7 @@ fn draw_and_print<S: EndFiles, W: Write>(
         (W.contents out.old) (W.contents out.new)) }
     ensures zero { IfOk result (λ status. status ≡ 0) }
     ensures refused { IfErr result (IsTestRefusal command.now) }
+    ensures unprinted { IfErr result (λ reason. (reason ≡ Output) ⊎ (W.contents out.new ≡ W.contents out.old)) }
     ensures unwanted { is_some command.now.svg ≡ false → file.new ≡ file.old }
     ensures unbroken { OnOk result (S.has_failed file.new ≡ false) }
     ensures finished { OnOk result (S.is_finished file.new ≡ true) }

@@ -1,5 +1,16 @@
 //! What is said of a litmus test in a line.
 
+ghost use Rattle.std.specs.Prelude.{◌≡◌, IfErr, IfOk, is_some};
+ghost use Rattle.litmus_tests.specs.WellFormed.{IsWellFormed};
+ghost use Rattle.shown_text.specs.Shown.{shown};
+ghost use Rattle.litmus_suites.specs.Lines.{fits};
+ghost use Rattle.searches.specs.declared.extent.Extent.TheVariants.{Whole};
+ghost use Rattle.litmus_text.specs.Verdict.{verdict_of};
+ghost use Rattle.litmus_suites.specs.declared.verdict.Verdict.TheVariants as verdict;
+ghost use Rattle.command_parts.specs.declared.refused.Refused.TheVariants.{Memory};
+ghost use Rattle.plain_commands.specs.Litmus.{IsTextRefusal};
+ghost use Rattle.plain_commands.specs.Suite.{IsSummaryOf, Says};
+
 use crate::litmus::{can_be_stuck, test_of};
 use crate::searching::find_shown;
 use actors::Gate;
@@ -12,13 +23,18 @@ use outcomes::{Extent, Outcomes};
 use shown_text::write_shown;
 use std::alloc::Global;
 
-/// The line of the litmus test that a text is, of which so many states are looked at the most. A text that is none is refused.
+/// The line of the litmus test that a text is, of which so many states are looked at the most. A text that is none is
+/// refused.
 pub(crate) fn summary_of<G: Gate>(
     text: &[u8],
     states: u32,
     gate: &G,
     alloc: Global,
-) -> Result<TestLine, Refused> {
+) -> Result<TestLine, Refused>
+    ensures line { IfOk result (IsSummaryOf states) }
+    ensures fits { IfOk result (λ line. fits line.verdict) }
+    ensures refused { IfErr result (IsTextRefusal text.now) }
+{
     let test = test_of(text, alloc)?;
     let name = shown_name(&test, alloc)?;
     let verdict = verdict_in(&test, states, gate, alloc)?;
@@ -26,7 +42,10 @@ pub(crate) fn summary_of<G: Gate>(
 }
 
 /// The name of a test, as texts of an input are shown.
-fn shown_name(test: &LitmusTest, alloc: Global) -> Result<Vec<u8>, Refused> {
+fn shown_name(test: &LitmusTest, alloc: Global) -> Result<Vec<u8>, Refused>
+    ensures name { IfOk result (λ name. name.items ≡ shown test.now.name.items) }
+    ensures refused { IfErr result (λ reason. reason ≡ Memory) }
+{
     let mut name = Vec::new(alloc);
     match write_shown(test.name.as_slice(), &mut name) {
         Ok(()) => Ok(name),
@@ -40,7 +59,12 @@ fn verdict_in<G: Gate>(
     states: u32,
     gate: &G,
     alloc: Global,
-) -> Result<Verdict, Refused> {
+) -> Result<Verdict, Refused>
+    requires { IsWellFormed test.now }
+    ensures says { IfOk result (Says test.now states) }
+    ensures fits { IfOk result fits }
+    ensures refused { IfErr result (λ reason. reason ≡ Memory) }
+{
     let Ok(image) = image_of(test, alloc) else {
         return Err(Refused::Memory);
     };
@@ -56,11 +80,14 @@ fn verdict_in<G: Gate>(
 }
 
 /// What is said of a test whose states are all.
-fn whole_verdict(
-    test: &LitmusTest,
-    outcomes: &Outcomes,
-    alloc: Global,
-) -> Result<Verdict, Refused> {
+fn whole_verdict(test: &LitmusTest, outcomes: &Outcomes, alloc: Global) -> Result<Verdict, Refused>
+    requires sound { IsWellFormed test.now }
+    requires whole { outcomes.now.extent ≡ Whole }
+    ensures says { IfOk result (λ says. says
+        ≡ verdict.Whole (verdict_of test.now outcomes.now.listed) (is_some outcomes.now.stuck)) }
+    ensures fits { IfOk result fits }
+    ensures refused { IfErr result (λ reason. reason ≡ Memory) }
+{
     let states = verdict_of(test, outcomes);
     let is_stuck = can_be_stuck(outcomes, alloc)?;
     Ok(Verdict::Whole { states, is_stuck })

@@ -1,5 +1,11 @@
 //! A line that names several litmus tests, or asks for what they come to in lines.
 
+ghost use Rattle.std.specs.Prelude.{◌≡◌, ◌⊎◌, IfSome, Option};
+ghost use Rattle.sim_inputs.specs.declared.line.Command.TheVariants.{Litmus};
+ghost use Rattle.plain_commands.specs.Suite.{IsKnown};
+ghost use Rattle.commands.specs.declared.suites.SuiteRefused.{SuiteRefused as AnyRefused};
+ghost use Rattle.program_io.specs.Performed.{HasPerformed, HasTested, IsRefusedSuite, read_of};
+
 use crate::noting::Noting;
 use crate::output_files::{OutputFiles, Places};
 use crate::performing::Program;
@@ -31,7 +37,10 @@ impl<S: Files + Input + Threads + Wait + Sync, G: Gate + Sync, P: Predict + Copy
         words: &[&str],
         out: &mut Noting<W>,
         err: &mut E,
-    ) -> u8 {
+    ) -> u8
+        ensures known { IsKnown result }
+        ensures performed { HasPerformed self.now.at_terminal line.now result ⊎ HasTested line.now result }
+    {
         match suite_of(line, self.system) {
             Some(litmus) => self.read_and_test(line, litmus, words, out, err),
             None => self.read_and_perform(line, out, err),
@@ -46,7 +55,10 @@ impl<S: Files + Input + Threads + Wait + Sync, G: Gate + Sync, P: Predict + Copy
         words: &[&str],
         out: &mut Noting<W>,
         err: &mut E,
-    ) -> u8 {
+    ) -> u8
+        requires { line.now.command ≡ Litmus litmus }
+        ensures { HasTested line.now result }
+    {
         let tests = match tests_asked(words, self.alloc) {
             Ok(tests) => tests,
             Err(AllocError) => return refuse(Refused::Memory, err),
@@ -88,7 +100,11 @@ impl<S: Files + Input + Threads + Wait + Sync, G: Gate + Sync, P: Predict + Copy
         read: &ReadInputs,
         context: &mut Context<'_, S, G, P, OutputFiles<'_, S>, &mut Noting<W>>,
         source: &mut TestFiles<'_, S, E>,
-    ) -> u8 {
+    ) -> u8
+        ensures known { IsKnown result }
+        ensures refused { (why : Option AnyRefused) × IsRefusedSuite litmus.now (read_of read.now.config)
+            (read_of read.now.second) result why }
+    {
         let inputs = read.lent();
         match perform_suite_line(context, litmus, &inputs, source) {
             Ok(status) => status,
@@ -102,7 +118,9 @@ impl<S: Files + Input + Threads + Wait + Sync, G: Gate + Sync, P: Predict + Copy
 
 /// The command of a line whose tests are several, by its words or since the one is a folder; or which asks for lines in place of
 /// states. A file is written of one test, which is read as it stands.
-fn suite_of<'a, S: Files>(line: &Line<'a>, system: &S) -> Option<LitmusCommand<'a>> {
+fn suite_of<'a, S: Files>(line: &Line<'a>, system: &S) -> Option<LitmusCommand<'a>>
+    ensures { IfSome result (λ litmus. line.now.command ≡ Litmus litmus) }
+{
     let Command::Litmus(litmus) = line.command else {
         return None;
     };
