@@ -8,8 +8,8 @@ ghost use Rattle.commands.specs.Suites.{IsSuiteLineFault, IsSuiteLineRefusal, Is
 
 use actors::Gate;
 use command_parts::{Context, Inputs, Refused, Unread, settings_of};
-use litmus_suites::{Counts, Differences, Expectation, SummaryRefused, TestSource};
-use plain_commands::{LineTelling, Telling, perform_suite};
+use litmus_suites::{Counts, Differences, Expectation, SummaryRefused};
+use plain_commands::{LineTelling, Telling, TestSource, perform_suite};
 use sim_inputs::LitmusCommand;
 use std::alloc::Global;
 use std::io::Write;

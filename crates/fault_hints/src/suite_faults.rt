@@ -18,7 +18,7 @@ pub fn add_absent_test(
     alloc: Global,
 ) -> Result<(), AllocError> {
     let mut file = Vec::new(alloc);
-    file.extend_from_slice(role_of(why))?;
+    file.extend_from_slice(role_of(why).as_bytes())?;
     file.extend_from_slice(path)?;
     hint.add(Part::File, file.as_slice())?;
     match why {
@@ -41,11 +41,11 @@ pub fn add_absent_test(
 }
 
 /// What is read at the path.
-fn role_of(why: NoTest) -> &'static [u8] {
+fn role_of(why: NoTest) -> &'static str {
     match why {
-        NoTest::List(_, _) => b"read as a list of tests: ",
-        NoTest::Empty => b"read as tests: ",
-        NoTest::File | NoTest::Memory => b"read as the litmus test: ",
+        NoTest::List(_, _) => "read as a list of tests: ",
+        NoTest::Empty => "read as tests: ",
+        NoTest::File | NoTest::Memory => "read as the litmus test: ",
     }
 }
 

@@ -1,22 +1,21 @@
 -- Tests, held against the lines of a summary. (This project's own choice.)
-use Rattle.std.specs.Prelude.{ℕ, Bool, not, ◌&&◌, if◌then◌else◌, List, [], ◌∷◌, ◌++◌, codes, count_by, flat_map, position}
-use Rattle.std.specs.Prelude.{Option, Some, None, option_and_then, option_map, slice_get, slice_set}
-use Rattle.std.specs.{Option.option_map_or, Str.bytes_eq}
+use Rattle.std.specs.Prelude.{ℕ, Bool, not, ◌&&◌, if◌then◌else◌, List, [], ◌∷◌, ◌++◌, codes, count_by, flat_map}
+use Rattle.std.specs.Prelude.{Option, Some, None, option_map, slice_get}
+use Rattle.std.specs.{Option.option_map_or, List.position_or_len, Str.bytes_eq}
 use Rattle.litmus_suites.specs.declared.summary_lines.ExpectedLine.{ExpectedLine}
 use Rattle.litmus_suites.specs.declared.expectation.Met.{Met}
 use Rattle.litmus_suites.specs.declared.expectation.Met.TheVariants.{Same, Changed, New}
 
--- A test takes the first line of its name that none has taken before.
+-- A test takes the first line of its name that none has taken before. Its place is behind all lines where there is none.
 abbrev pub meets : List ℕ → ExpectedLine → Bool
 meets name line = not line.is_over && bytes_eq line.name.now name
 
-abbrev pub place_of : List ℕ → List ExpectedLine → Option ℕ
-place_of name lines = position (meets name) lines
+abbrev pub place_of : List ℕ → List ExpectedLine → ℕ
+place_of name lines = position_or_len (meets name) lines
 
 -- What is said in it.
 abbrev pub counterpart : List ℕ → List ExpectedLine → Option (List ℕ)
-counterpart name lines =
-    option_and_then (λ place. option_map (λ line. line.verdict.now) (slice_get lines place)) (place_of name lines)
+counterpart name lines = option_map (λ line. line.verdict.now) (slice_get lines (place_of name lines))
 
 -- It is over then.
 abbrev pub over : ExpectedLine → ExpectedLine
@@ -26,7 +25,7 @@ abbrev pub over_at : List ExpectedLine → ℕ → List ExpectedLine
 over_at lines place = option_map_or (λ line. slice_set lines place (over line)) (slice_get lines place) lines
 
 abbrev pub taken : List ℕ → List ExpectedLine → List ExpectedLine
-taken name lines = option_map_or (over_at lines) (place_of name lines) lines
+taken name lines = over_at lines (place_of name lines)
 
 -- What differs: what was said of a test, and what is said now, each with a blank before it.
 unfoldable pub difference_text : List ℕ → List ℕ → List ℕ → List ℕ

@@ -1,7 +1,7 @@
 -- What a source of tests gives. (This project's own choice.)
 use Rattle.std.specs.Prelude.{ℕ, List, Option, Some, None, Result, Ok, Err, Vec}
-use Rattle.litmus_suites.specs.declared.source.NoTest.{NoTest}
-use Rattle.litmus_suites.specs.declared.source.NoTest.TheVariants as no_test
+use Rattle.litmus_suites.specs.declared.no_test.NoTest.{NoTest}
+use Rattle.litmus_suites.specs.declared.no_test.NoTest.TheVariants as no_test
 
 -- The text of a test, or why a name comes to none.
 abbrev pub GivenTest : Type 0

@@ -64,22 +64,23 @@ impl<'a> Expectation<'a> {
         ensures was { option_map (λ was. was.now) result ≡ counterpart name.now self.old.lines.items }
         ensures taken { self.new.lines.items ≡ taken name.now self.old.lines.items }
     {
-        let place = self.place_of(name)?;
+        let place = self.place_of(name);
         let line = self.lines.get_mut(place)?;
         line.is_over = true;
         Some(line.verdict)
     }
 
-    /// The place of the first line of this name that none has taken.
-    fn place_of(&self, name: &[u8]) -> Option<usize>
+    /// The place of the first line of this name that none has taken; behind all where there is none.
+    fn place_of(&self, name: &[u8]) -> usize
         ensures { result ≡ place_of name.now self.now.lines.items }
     {
-        for (place, line) in self.lines.iter().enumerate() {
+        let lines = self.lines.as_slice();
+        for (place, line) in lines.iter().enumerate() {
             if meets(name, line) {
-                return Some(place);
+                return place;
             }
         }
-        None
+        lines.len()
     }
 
     /// Writes of each line that no test has taken that it isn't there any more.
@@ -120,7 +121,7 @@ fn write_met<W: Write>(name: &[u8], was: Option<&[u8]>, is: &[u8], out: &mut W) 
         (met_text name.now (option_map (λ was. was.now) was.entry) is.now)) }
 {
     let Some(was) = was else {
-        write_difference(name, not_there(), is, out)?;
+        write_difference(name, not_there().as_bytes(), is, out)?;
         return Ok(Met::New);
     };
     if was == is {
@@ -137,14 +138,14 @@ fn write_gone_line<W: Write>(line: &ExpectedLine<'_>, out: &mut W) -> io::Result
     if line.is_over {
         return Ok(());
     }
-    write_difference(line.name, line.verdict, not_there(), out)
+    write_difference(line.name, line.verdict, not_there().as_bytes(), out)
 }
 
 /// What stands in place of what is said of a test that isn't there.
-fn not_there() -> &'static [u8]
+fn not_there() -> &'static str
     ensures { result.now ≡ not_there }
 {
-    b" not there"
+    " not there"
 }
 
 /// Writes what was said of a test and what is said now, each with a blank before it.

@@ -2,7 +2,7 @@
 //!
 //! A module a command: `plain` and `plain_rounds` (an order, and turns without one), `schedule` (the script that
 //! makes a core retire in an order), `all_outcomes` and `litmus` (both over `searching`), `suite` (many litmus tests:
-//! `litmus_summary` has the line of one, `telling` what is printed of each). Beside the first of these
+//! `litmus_summary` has the line of one, `telling` what is printed of each, `test_source` where they come from). Beside the first of these
 //! stand `asking` (its question, and what is watched), `settling` (which outcome answers it) and `written_orders` (the
 //! order that it writes), and beside `plain` too `drawn_orders` (the picture of an order's story). `retiring` has the
 //! law that a printed schedule is retired. What each command comes to, and when each of its refusals comes, stands in
@@ -22,6 +22,7 @@ mod searching;
 mod settling;
 mod suite;
 mod telling;
+mod test_source;
 mod written_orders;
 mod written_stories;
 
@@ -34,3 +35,4 @@ pub use schedule::perform_schedule;
 pub use settling::status_of_answer;
 pub use suite::perform_suite;
 pub use telling::{LineTelling, Telling};
+pub use test_source::TestSource;

@@ -5,9 +5,10 @@ ghost use Rattle.litmus_suites.specs.Sources.{text_of};
 ghost use Rattle.plain_commands.specs.Suite.{AllHaveCome, CameOf, IsKnown, IsSuiteRefusal, SuiteComesTo};
 
 use crate::telling::Telling;
+use crate::test_source::TestSource;
 use actors::Gate;
 use command_parts::Refused;
-use litmus_suites::{NoTest, TestSource, worse};
+use litmus_suites::{NoTest, worse};
 use sim_inputs::LitmusCommand;
 use std::alloc::Global;
 use std::io::Write;

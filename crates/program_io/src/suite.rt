@@ -116,8 +116,8 @@ impl<S: Files + Input + Threads + Wait + Sync, G: Gate + Sync, P: Predict + Copy
     }
 }
 
-/// The command of a line whose tests are several, by its words or since the one is a folder; or which asks for lines in place of
-/// states. A file is written of one test, which is read as it stands.
+/// The command of a line whose tests are several, by its words or since the one is a folder; or which asks for lines in
+/// place of states. A file is written of one test, which is read as it stands.
 fn suite_of<'a, S: Files>(line: &Line<'a>, system: &S) -> Option<LitmusCommand<'a>>
     ensures { IfSome result (λ litmus. line.now.command ≡ Litmus litmus) }
 {

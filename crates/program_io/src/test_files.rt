@@ -6,7 +6,8 @@ use crate::test_names::{Absent, TestNames};
 use command_parts::{Inputs, Refused};
 use commands::SuiteRefused;
 use fault_hints::{FileFaults, LineFault};
-use litmus_suites::{NoTest, TestSource};
+use litmus_suites::NoTest;
+use plain_commands::TestSource;
 use shown_text::write_shown;
 use sim_inputs::{Command, Line, LitmusCommand};
 use std::alloc::{AllocError, Global};
@@ -15,8 +16,8 @@ use std::io;
 use std::io::Write;
 use std::rt::Files;
 
-/// The tests of a line. Why a name comes to none, and why a test is refused, is told on standard error: a line with the file before the
-/// fault, and a hint behind it, as if the test were alone.
+/// The tests of a line. Why a name comes to none, and why a test is refused, is told on standard error: a line with the file
+/// before the fault, and a hint behind it, as if the test were alone.
 #[derive(Drop)]
 pub(crate) struct TestFiles<'a, S: Files + Input, E: Write> {
     system: &'a S,
@@ -83,14 +84,13 @@ impl<'a, S: Files + Input, E: Write> TestFiles<'a, S, E> {
     /// Tells why a name comes to no test.
     fn tell_absent(&mut self, absent: &Absent) {
         let why = absent.why;
-        let place = if self.is_alone {
-            &[]
-        } else {
-            absent.path.as_slice()
-        };
+        let mut place = absent.path.as_slice();
+        if self.is_alone {
+            place = &[];
+        }
         let _ = write_place(place, self.err);
         let _ = writeln!(self.err, "{why}");
-        if let Ok(said) = said_of(place, why, self.hinting.alloc) {
+        if let Ok(said) = said_of(place, &why, self.hinting.alloc) {
             self.hinting
                 .tell_absent(said.as_str(), absent, self.line, self.err);
         }
@@ -141,7 +141,7 @@ impl<S: Files + Input, E: Write> TestSource for TestFiles<'_, S, E> {
             },
             files: FileFaults::NONE,
         };
-        if let Ok(said) = said_of(place.as_bytes(), refused, self.hinting.alloc) {
+        if let Ok(said) = said_of(place.as_bytes(), &refused, self.hinting.alloc) {
             self.hinting.tell_test(said.as_str(), &fault, self.err);
         }
     }
@@ -158,7 +158,7 @@ fn write_place<E: Write>(path: &[u8], err: &mut E) -> io::Result<()> {
 }
 
 /// What is said of a fault, behind the program.
-fn said_of<D: Display>(path: &[u8], fault: D, alloc: Global) -> Result<String, AllocError> {
+fn said_of<D: Display>(path: &[u8], fault: &D, alloc: Global) -> Result<String, AllocError> {
     let text = fault.to_string(alloc)?;
     if path.is_empty() {
         return Ok(text);

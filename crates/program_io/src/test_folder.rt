@@ -70,16 +70,19 @@ impl TestFolder {
 
     /// The path of the file with this name. One that is no text can't be read.
     fn path_of(&self, name: &[u8], alloc: Global) -> Result<String, Absent> {
-        match joined(self.path.as_str(), name, alloc) {
-            Ok(path) => match String::from_utf8(path) {
-                Ok(path) => Ok(path),
-                Err(error) => Err(Absent {
-                    path: error.into_bytes(),
-                    why: NoTest::File,
-                    cause: None,
-                }),
-            },
-            Err(AllocError) => Err(Absent::for_memory(alloc)),
+        let Ok(path) = joined(self.path.as_str(), name, alloc) else {
+            return Err(Absent::for_memory(alloc));
+        };
+        if str::from_utf8(name).is_err() {
+            return Err(Absent {
+                path,
+                why: NoTest::File,
+                cause: None,
+            });
+        }
+        match String::from_utf8(path) {
+            Ok(path) => Ok(path),
+            Err(_) => Err(Absent::for_memory(alloc)),
         }
     }
 }
@@ -102,7 +105,11 @@ fn with_slash(path: &str, alloc: Global) -> Result<String, AllocError> {
 fn tests_among(names: &[u8], alloc: Global) -> Result<Vec<Vec<u8>>, AllocError> {
     let mut tests = Vec::new(alloc);
     let mut left = names;
-    while !left.is_empty() {
+    // No name is empty.
+    for _turn in 0..names.len() {
+        if left.is_empty() {
+            break;
+        }
         let (name, behind) = split_field(left, 0);
         if is_of_test(name) {
             tests.push(Vec::from_slice(alloc, name)?)?;

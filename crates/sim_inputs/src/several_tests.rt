@@ -48,7 +48,7 @@ pub(crate) fn are_several(found: &ArgMatches<'_>) -> bool
 }
 
 fn any_list(names: &[&str]) -> bool
-    ensures { result ≡ list_any names_list (map (λ name. name.now) names.now) }
+    ensures { result ≡ list_any (λ name. names_list name.now) names.now }
 {
     for name in names {
         if names_list(name) {
@@ -76,7 +76,7 @@ pub(crate) fn names_input(found: &ArgMatches<'_>) -> bool
 }
 
 fn any_input(names: &[&str]) -> bool
-    ensures { result ≡ list_any is_standard_input (map (λ name. name.now) names.now) }
+    ensures { result ≡ list_any (λ name. is_standard_input name.now) names.now }
 {
     for name in names {
         if is_standard_input(name) {
