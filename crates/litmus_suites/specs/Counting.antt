@@ -21,7 +21,7 @@ counted_whole true counts = record counts { as_asked = more counts.as_asked }
 counted_whole false counts = record counts { otherwise = more counts.otherwise }
 
 abbrev pub counted : Verdict → Counts → Counts
-counted (Whole states stuck) counts = counted_whole states.is_as_asked counts
+counted (Whole held others asked stuck) counts = counted_whole asked counts
 counted NotComplete counts = record counts { not_complete = more counts.not_complete }
 
 abbrev pub counted_refused : Counts → Counts

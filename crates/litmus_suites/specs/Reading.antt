@@ -5,6 +5,7 @@ use Rattle.std.specs.Prelude.{Option, Some, None, is_some, Result, Ok, Err}
 use Rattle.std.specs.{Str.bytes_eq, Result.result_ok}
 use Rattle.std.specs.List.{starts_with, ends_with}
 use Rattle.text_fields.specs.{Reading.decimal_field, Splitting.field, Splitting.field_count, Splitting.rest}
+use Rattle.litmus_suites.specs.Lines.{word_of}
 use Rattle.litmus_suites.specs.declared.summary_lines.ExpectedLine.{ExpectedLine}
 use Rattle.litmus_suites.specs.declared.summary_lines.SummaryRefused.{SummaryRefused}
 use Rattle.litmus_suites.specs.declared.summary_lines.SummaryRefused.TheVariants.{Line, Memory}
@@ -19,11 +20,7 @@ behind_blank line = reverse (field 32 (reverse line))
 abbrev pub number_in : List ℕ → Option ℕ
 number_in text = result_ok (decimal_field (2 ^ 32 - 1) text)
 
--- The word that says how often the condition holds, by of how many states it does, and of how many it doesn't.
-abbrev pub word_of : ℕ → ℕ → List ℕ
-word_of held others =
-    if held == 0 then codes "Never" else (if others == 0 then codes "Always" else codes "Sometimes")
-
+-- The word is the one that the numbers ask for.
 abbrev pub is_word_of : List ℕ → Option ℕ → Option ℕ → Bool
 is_word_of word None others = false
 is_word_of word (Some held) None = false

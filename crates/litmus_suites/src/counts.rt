@@ -42,10 +42,7 @@ impl Counts {
         ensures { self.new ≡ counted verdict self.old }
     {
         match verdict {
-            Verdict::Whole {
-                states,
-                is_stuck: _,
-            } => self.count_whole(states.is_as_asked),
+            Verdict::Whole { is_as_asked, .. } => self.count_whole(is_as_asked),
             Verdict::NotComplete => self.not_complete = sum(self.not_complete, 1),
         }
     }

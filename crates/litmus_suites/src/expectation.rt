@@ -2,7 +2,7 @@
 
 ghost use Rattle.std.specs.Prelude.{◌≡◌, ◌%◌, ◌^◌, IfErr, IfOk, OnOk, option_map};
 ghost use Rattle.std.specs.Io.KnownBytes.{Appends};
-ghost use Rattle.litmus_suites.specs.Lines.{fits, verdict_text};
+ghost use Rattle.litmus_suites.specs.Lines.{verdict_text};
 ghost use Rattle.litmus_suites.specs.Reading.{AreLinesOf, IsSummaryRefusal};
 ghost use Rattle.litmus_suites.specs.Expecting.{counterpart, difference_text, gone_count, gone_line, gone_text, meets, met_of};
 ghost use Rattle.litmus_suites.specs.Expecting.{met_text, not_there, place_of, taken};
@@ -45,7 +45,6 @@ impl<'a> Expectation<'a> {
     /// What the test of a line is beside the line that it takes: the first of its name that none has taken. Writes what
     /// differs.
     pub fn meet<W: Write>(&mut self, line: &TestLine, out: &mut W) -> io::Result<Met>
-        requires { fits line.now.verdict }
         ensures taken { self.new.lines.items ≡ taken line.now.name.items self.old.lines.items }
         ensures met { IfOk result (λ met. met
             ≡ met_of (counterpart line.now.name.items self.old.lines.items) (verdict_text line.now.verdict)) }

@@ -13,5 +13,4 @@ mod value;
 mod verdict;
 
 pub use states::{holds_of_any, write_states};
-pub use summary::observation_of;
 pub use verdict::{StatesVerdict, verdict_of};

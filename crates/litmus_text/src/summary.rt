@@ -167,9 +167,9 @@ fn write_observation<W: Write>(
     write_numbers(held, count, out)
 }
 
-/// How often the condition holds, in a word, with a blank at both ends.
+/// How often the condition holds, in a word.
 #[tactic(auto, unfolding(crate::specs::Summary::observation_of))]
-pub fn observation_of(held: usize, count: usize) -> &'static str
+fn observation_of(held: usize, count: usize) -> &'static str
     ensures { result.now ≡ observation_of held count }
 {
     if held == 0 {

@@ -1,5 +1,5 @@
 -- Many litmus tests in one command. (This project's own choice, after herd's lists of tests.)
-use Rattle.std.specs.Prelude.{◌≡◌, ◌⊎◌, IsTrue, ℕ, List, [], ◌∷◌, ◌++◌, length, map, Option, Some, None, is_some, Result, Ok, Err}
+use Rattle.std.specs.Prelude.{◌≡◌, ◌⊎◌, IsTrue, ℕ, ◌-◌, Bool, List, [], ◌∷◌, ◌++◌, length, map, Option, Some, None, is_some, Result, Ok, Err}
 use Rattle.std.specs.Io.KnownBytes.{Appends, Keeps}
 use Rattle.elf_image.specs.Image.{ProgramImage}
 use Rattle.watched_outcomes.specs.{declared.watch.Watch.Watch}
@@ -8,6 +8,7 @@ use Rattle.shown_text.specs.Shown.{shown}
 use Rattle.litmus_tests.specs.declared.test.LitmusTest.{LitmusTest}
 use Rattle.litmus_tests.specs.{WellFormed.IsWellFormed}
 use Rattle.litmus_text.specs.Verdict.{verdict_of}
+use Rattle.litmus_text.specs.declared.verdict.StatesVerdict.{StatesVerdict}
 use Rattle.litmus_suites.specs.Sources.{GivenTest, no_test_status}
 use Rattle.litmus_suites.specs.Statuses.{worse, worst}
 use Rattle.litmus_suites.specs.Lines.{line_text, verdict_text}
@@ -28,6 +29,10 @@ use Rattle.plain_commands.specs.declared.telling.{Telling.Telling, LineTelling.L
 use Rattle.plain_commands.specs.declared.telling.Telling.TheVariants.{States, Lines}
 use Rattle.plain_commands.specs.declared.telling.LineTelling.TheVariants.{Summary, Comparison}
 
+-- What is said of the numbers of all final states.
+abbrev pub said_of : StatesVerdict → Bool → Verdict
+said_of states stuck = Whole states.held (states.count - states.held) states.is_as_asked stuck
+
 -- Of all final states of a test (`PrintsAllStates`) these numbers are said, those of their text (`states_text`), and
 -- whether there is an order to a state that has no way to an end.
 pub record SaysAllStates (test : LitmusTest) (verdict : Verdict) : Type 0 where
@@ -38,7 +43,7 @@ pub record SaysAllStates (test : LitmusTest) (verdict : Verdict) : Type 0 where
   pub all : InEachSetup image (length test.threads.items) (λ setup. IsExactList setup watch found)
   pub cores : InEachSetup image (length test.threads.items) (λ setup. CoversCores setup watch found)
   pub once : IsOnce found
-  pub says : verdict ≡ Whole (verdict_of test found.listed) (is_some found.stuck)
+  pub says : verdict ≡ said_of (verdict_of test found.listed) (is_some found.stuck)
 
 -- More states than were to be looked at can be reached, and that is said.
 pub record SaysMoreStates (test : LitmusTest) (states : ℕ) (verdict : Verdict) : Type 0 where
@@ -59,7 +64,7 @@ pub record IsSummaryOf (states : ℕ) (line : TestLine) : Type 0 where
   pub says : Says test states line.verdict
 
 abbrev pub status_of : Verdict → ℕ
-status_of (Whole states stuck) = 0
+status_of (Whole held others asked stuck) = 0
 status_of NotComplete = 3
 
 -- What is printed of a line, and how it is counted: the line; or what differs from the line that the test takes.

@@ -3,13 +3,11 @@
 ghost use Rattle.std.specs.Prelude.{◌≡◌, IfErr, IfOk, is_some};
 ghost use Rattle.litmus_tests.specs.WellFormed.{IsWellFormed};
 ghost use Rattle.shown_text.specs.Shown.{shown};
-ghost use Rattle.litmus_suites.specs.Lines.{fits};
 ghost use Rattle.searches.specs.declared.extent.Extent.TheVariants.{Whole};
 ghost use Rattle.litmus_text.specs.Verdict.{verdict_of};
-ghost use Rattle.litmus_suites.specs.declared.verdict.Verdict.TheVariants as verdict;
 ghost use Rattle.command_parts.specs.declared.refused.Refused.TheVariants.{Memory};
 ghost use Rattle.plain_commands.specs.Litmus.{IsTextRefusal};
-ghost use Rattle.plain_commands.specs.Suite.{IsSummaryOf, Says};
+ghost use Rattle.plain_commands.specs.Suite.{IsSummaryOf, Says, said_of};
 
 use crate::litmus::{can_be_stuck, test_of};
 use crate::searching::find_shown;
@@ -32,7 +30,6 @@ pub(crate) fn summary_of<G: Gate>(
     alloc: Global,
 ) -> Result<TestLine, Refused>
     ensures line { IfOk result (IsSummaryOf states) }
-    ensures fits { IfOk result (λ line. fits line.verdict) }
     ensures refused { IfErr result (IsTextRefusal text.now) }
 {
     let test = test_of(text, alloc)?;
@@ -62,7 +59,6 @@ fn verdict_in<G: Gate>(
 ) -> Result<Verdict, Refused>
     requires { IsWellFormed test.now }
     ensures says { IfOk result (Says test.now states) }
-    ensures fits { IfOk result fits }
     ensures refused { IfErr result (λ reason. reason ≡ Memory) }
 {
     let Ok(image) = image_of(test, alloc) else {
@@ -84,11 +80,15 @@ fn whole_verdict(test: &LitmusTest, outcomes: &Outcomes, alloc: Global) -> Resul
     requires sound { IsWellFormed test.now }
     requires whole { outcomes.now.extent ≡ Whole }
     ensures says { IfOk result (λ says. says
-        ≡ verdict.Whole (verdict_of test.now outcomes.now.listed) (is_some outcomes.now.stuck)) }
-    ensures fits { IfOk result fits }
+        ≡ said_of (verdict_of test.now outcomes.now.listed) (is_some outcomes.now.stuck)) }
     ensures refused { IfErr result (λ reason. reason ≡ Memory) }
 {
     let states = verdict_of(test, outcomes);
     let is_stuck = can_be_stuck(outcomes, alloc)?;
-    Ok(Verdict::Whole { states, is_stuck })
+    Ok(Verdict::Whole {
+        held: states.held,
+        others: states.count - states.held,
+        is_as_asked: states.is_as_asked,
+        is_stuck,
+    })
 }

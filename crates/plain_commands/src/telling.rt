@@ -4,7 +4,6 @@ ghost use Rattle.std.specs.Prelude.{◌≡◌, ◌⊎◌, ◌++◌, IfErr, IfOk,
 ghost use Rattle.std.specs.Io.KnownBytes.{Appends};
 ghost use Rattle.litmus_suites.specs.Expecting.{gone_text};
 ghost use Rattle.litmus_suites.specs.Counting.{differences_text, status_of as status_of_differences};
-ghost use Rattle.litmus_suites.specs.Lines.{fits};
 ghost use Rattle.command_parts.specs.declared.refused.Refused.TheVariants.{Output};
 ghost use Rattle.plain_commands.specs.Litmus.{IsTextRefusal};
 ghost use Rattle.plain_commands.specs.Suite.{AreFinished, IsFinished, IsMade, IsRefusedTest, IsSummed, IsTold};
@@ -113,7 +112,6 @@ impl LineTelling<'_> {
 
     /// Prints what is wanted of the line of a test, and counts it.
     fn tell<W: Write>(&mut self, line: &TestLine, out: &mut W) -> Result<(), Refused>
-        requires { fits line.now.verdict }
         ensures told { OnOk result (IsTold line.now self.old self.new (W.contents out.old) (W.contents out.new)) }
         ensures refused { IfErr result (λ reason. reason ≡ Output) }
     {
