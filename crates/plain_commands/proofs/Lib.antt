@@ -8,3 +8,4 @@ pub mod OfLitmus
 pub mod Retired
 pub mod FirstSettling
 pub mod OfWrittenStories
+mod OfSuite

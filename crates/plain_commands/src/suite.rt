@@ -2,7 +2,7 @@
 
 ghost use Rattle.std.specs.Prelude.{IfErr, IfOk, Ok};
 ghost use Rattle.litmus_suites.specs.Sources.{text_of};
-ghost use Rattle.plain_commands.specs.Suite.{AllHaveCome, CameOf, IsKnown, IsSuiteRefusal, SuiteComesTo};
+ghost use Rattle.plain_commands.specs.Suite.{AllHaveCome, CameOf, IsSuiteRefusal, SuiteComesTo};
 
 use crate::telling::Telling;
 use crate::test_source::TestSource;
@@ -29,7 +29,6 @@ pub fn perform_suite<T: TestSource, G: Gate, W: Write>(
 ) -> Result<u8, Refused>
     ensures comes { IfOk result (SuiteComesTo T.gives T.hears command.now source.old source.new telling.old
         (W.contents out.old) (W.contents out.new)) }
-    ensures known { IfOk result IsKnown }
     ensures refused { IfErr result IsSuiteRefusal }
 {
     let status = match perform_tests(source, command, telling, gate, out, alloc) {
