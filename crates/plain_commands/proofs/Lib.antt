@@ -9,3 +9,4 @@ pub mod Retired
 pub mod FirstSettling
 pub mod OfWrittenStories
 mod OfSuite
+mod OfSummary
