@@ -106,43 +106,46 @@ refused_more (Lines lines) = Lines (refused_line lines)
 
 -- What came of a test that a source has given, which stands so behind that: its exit status, what is printed, and how the
 -- source stands then. A refused one is told to the source.
-module _ {S : Type 0} (hears : S → Refused → S → Type 0) (command : LitmusCommand) where
-  pub record HasMade (before after : Telling) (old new : Option (List ℕ)) (status : ℕ) : Type 0 where
-    pub printed : Option (List ℕ)
-    pub made : IsMade command before after old printed status
-    pub flushed : Keeps printed new
+pub record HasMade (command : LitmusCommand) (before after : Telling) (old new : Option (List ℕ)) (status : ℕ)
+    : Type 0 where
+  pub printed : Option (List ℕ)
+  pub made : IsMade command before after old printed status
+  pub flushed : Keeps printed new
 
-  pub record HasRefused (text : List ℕ) (given left : S) (before after : Telling) (old new : Option (List ℕ)) (status : ℕ)
-      : Type 0 where
-    pub reason : Refused
-    pub refusal : IsLitmusRefusal text command reason
-    pub heard : hears given reason left
-    pub counts : after ≡ refused_more before
-    pub unprinted : new ≡ old
-    pub is : status ≡ exit_status_of reason
+pub record HasRefused {S : Type 0} (hears : S → Refused → S → Type 0) (command : LitmusCommand) (text : List ℕ)
+    (given left : S) (before after : Telling) (old new : Option (List ℕ)) (status : ℕ) : Type 0 where
+  pub reason : Refused
+  pub refusal : IsLitmusRefusal text command reason
+  pub heard : hears given reason left
+  pub counts : after ≡ refused_more before
+  pub unprinted : new ≡ old
+  pub is : status ≡ exit_status_of reason
 
-  abbrev pub CameOf : GivenTest → S → S → Telling → Telling → Option (List ℕ) → Option (List ℕ) → ℕ → Type 0
-  CameOf (Ok text) given left before after old new status = ((left ≡ given) × HasMade before after old new status)
-      ⊎ HasRefused text given left before after old new status
-  CameOf (Err why) given left before after old new status = (left ≡ given) × (after ≡ refused_more before)
-      × (new ≡ old) × (status ≡ no_test_status why)
+abbrev pub CameOf : {S : Type 0} → (S → Refused → S → Type 0) → LitmusCommand → GivenTest → S → S → Telling → Telling
+    → Option (List ℕ) → Option (List ℕ) → ℕ → Type 0
+CameOf hears command (Ok text) given left before after old new status =
+    ((left ≡ given) × HasMade command before after old new status)
+    ⊎ HasRefused hears command text given left before after old new status
+CameOf hears command (Err why) given left before after old new status = (left ≡ given) × (after ≡ refused_more before)
+    × (new ≡ old) × (status ≡ no_test_status why)
 
 -- The tests that a source gives, with the exit status of each, the newest first: what came of them all.
-module _ {S : Type 0} (gives : S → Option GivenTest → S → Type 0) (hears : S → Refused → S → Type 0)
-    (command : LitmusCommand) where
-  abbrev pub HaveCome : List (GivenTest × ℕ) → S → S → Telling → Telling → Option (List ℕ) → Option (List ℕ) → Type 0
-  HaveCome [] source left before after old new = (left ≡ source) × (after ≡ before) × (new ≡ old)
-  HaveCome (test ∷ past) source left before after old new = (earlier : S) × (given : S) × (between : Telling)
-      × (mid : Option (List ℕ)) × HaveCome past source earlier before between old mid
-      × gives earlier (Some test.0) given × CameOf hears command test.0 given left between after mid new test.1
+abbrev pub HaveCome : {S : Type 0} → (S → Option GivenTest → S → Type 0) → (S → Refused → S → Type 0) → LitmusCommand
+    → List (GivenTest × ℕ) → S → S → Telling → Telling → Option (List ℕ) → Option (List ℕ) → Type 0
+HaveCome gives hears command [] source left before after old new = (left ≡ source) × (after ≡ before) × (new ≡ old)
+HaveCome {S} gives hears command (test ∷ past) source left before after old new = (earlier : S) × (given : S)
+    × (between : Telling) × (mid : Option (List ℕ)) × HaveCome gives hears command past source earlier before between old mid
+    × gives earlier (Some test.0) given × CameOf hears command test.0 given left between after mid new test.1
 
-  -- All of them have come, and this is the worst exit status.
-  pub record AllHaveCome (source left : S) (before after : Telling) (old new : Option (List ℕ)) (status : ℕ) : Type 0 where
-    pub tests : List (GivenTest × ℕ)
-    pub last : S
-    pub come : HaveCome tests source last before after old new
-    pub ended : gives last None left
-    pub worst_is : status ≡ worst (map (λ test. test.1) tests)
+-- All of them have come, and this is the worst exit status.
+pub record AllHaveCome {S : Type 0} (gives : S → Option GivenTest → S → Type 0) (hears : S → Refused → S → Type 0)
+    (command : LitmusCommand) (source left : S) (before after : Telling) (old new : Option (List ℕ)) (status : ℕ)
+    : Type 0 where
+  pub tests : List (GivenTest × ℕ)
+  pub last : S
+  pub come : HaveCome gives hears command tests source last before after old new
+  pub ended : gives last None left
+  pub worst_is : status ≡ worst (map (λ test. test.1) tests)
 
 -- What is printed behind them, and the exit status of that.
 abbrev pub with_gone : Expectation → Differences → Differences
