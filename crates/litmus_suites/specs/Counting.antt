@@ -30,10 +30,14 @@ counted_refused counts = record counts { refused = more counts.refused }
 abbrev pub all_of : Counts → ℕ
 all_of counts = sum (sum (sum counts.as_asked counts.otherwise) counts.not_complete) counts.refused
 
+-- A count behind what it is of.
+unfoldable pub count_text : List ℕ → ℕ → List ℕ
+count_text text count = text ++ decimal count
+
 unfoldable pub counts_text : Counts → List ℕ
-counts_text counts = codes "tests " ++ (decimal (all_of counts) ++ (codes ": Ok " ++ (decimal counts.as_asked
-    ++ (codes ", No " ++ (decimal counts.otherwise ++ (codes ", not complete " ++ (decimal counts.not_complete
-    ++ (codes ", refused " ++ (decimal counts.refused ++ codes "\n")))))))))
+counts_text counts = count_text (codes "tests ") (all_of counts) ++ (count_text (codes ": Ok ") counts.as_asked
+    ++ (count_text (codes ", No ") counts.otherwise ++ (count_text (codes ", not complete ") counts.not_complete
+    ++ (count_text (codes ", refused ") counts.refused ++ codes "\n"))))
 
 -- One more test that is this beside the line that it takes, and one that is refused.
 abbrev pub noted : Met → Differences → Differences
@@ -53,10 +57,10 @@ abbrev pub tests_of : Differences → ℕ
 tests_of differences = sum (sum (sum differences.same differences.changed) differences.new) differences.refused
 
 unfoldable pub differences_text : Differences → List ℕ
-differences_text differences = codes "tests " ++ (decimal (tests_of differences)
-    ++ (codes ": the same " ++ (decimal differences.same ++ (codes ", changed " ++ (decimal differences.changed
-    ++ (codes ", new " ++ (decimal differences.new ++ (codes ", not there " ++ (decimal differences.gone
-    ++ (codes ", refused " ++ (decimal differences.refused ++ codes "\n")))))))))))
+differences_text differences = count_text (codes "tests ") (tests_of differences)
+    ++ (count_text (codes ": the same ") differences.same ++ (count_text (codes ", changed ") differences.changed
+    ++ (count_text (codes ", new ") differences.new ++ (count_text (codes ", not there ") differences.gone
+    ++ (count_text (codes ", refused ") differences.refused ++ codes "\n")))))
 
 -- The counts of no test.
 abbrev pub no_counts : Counts

@@ -1,6 +1,6 @@
 -- Tests, held against the lines of a summary. (This project's own choice.)
-use Rattle.std.specs.Prelude.{ℕ, Bool, not, ◌&&◌, if◌then◌else◌, List, [], ◌∷◌, ◌++◌, codes, count_by, flat_map}
-use Rattle.std.specs.Prelude.{Option, Some, None, option_map, slice_get}
+use Rattle.std.specs.Prelude.{ℕ, Bool, true, not, ◌&&◌, if◌then◌else◌, List, [], ◌∷◌, ◌++◌, codes, count_by, flat_map}
+use Rattle.std.specs.Prelude.{Option, Some, None, option_map, slice_get, slice_set}
 use Rattle.std.specs.{Option.option_map_or, List.position_or_len, Str.bytes_eq}
 use Rattle.litmus_suites.specs.declared.summary_lines.ExpectedLine.{ExpectedLine}
 use Rattle.litmus_suites.specs.declared.expectation.Met.{Met}

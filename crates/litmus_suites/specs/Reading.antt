@@ -62,8 +62,12 @@ is_of_test line = name_in (line.name.now ++ line.verdict.now) ≡ Some line.name
 abbrev pub is_of_counts : ExpectedLine → Type 0
 is_of_counts line = (is_counts line.name.now ≡ true) × (line.verdict.now ≡ [])
 
+abbrev pub IsLineWhere : Bool → ExpectedLine → Type 0
+IsLineWhere true line = is_of_counts line
+IsLineWhere false line = is_of_test line
+
 abbrev pub IsSummaryLine : ExpectedLine → Type 0
-IsSummaryLine line = if line.is_over then is_of_counts line else is_of_test line
+IsSummaryLine line = IsLineWhere line.is_over line
 
 abbrev pub line_of : ExpectedLine → List ℕ
 line_of line = line.name.now ++ line.verdict.now

@@ -1,9 +1,10 @@
 //! The last line of a suite: how many tests came to what.
 
-ghost use Rattle.std.specs.Prelude.{◌≡◌, OnOk};
+ghost use Rattle.std.specs.Prelude.{◌≡◌, ◌≤◌, ◌+◌, ◌++◌, OnOk, length};
+ghost use Rattle.arrayvec.specs.ArrayString.{array_string_len};
 ghost use Rattle.std.specs.Io.KnownBytes.{Appends};
 ghost use Rattle.litmus_suites.specs.Counting.{all_of, counted, counted_refused, counted_whole, counts_text, differences_text};
-ghost use Rattle.litmus_suites.specs.Counting.{noted, noted_refused, status_of, sum, tests_of};
+ghost use Rattle.litmus_suites.specs.Counting.{count_text, noted, noted_refused, status_of, sum, tests_of};
 
 use crate::expectation::Met;
 use crate::verdict::Verdict;
@@ -81,16 +82,11 @@ impl Counts {
         ensures { OnOk result (Appends (W.contents out.old) (W.contents out.new) (counts_text self.now)) }
     {
         let mut line = LastLine::new();
-        line.push_str("tests ");
-        push_decimal(&mut line, self.all());
-        line.push_str(": Ok ");
-        push_decimal(&mut line, self.as_asked);
-        line.push_str(", No ");
-        push_decimal(&mut line, self.otherwise);
-        line.push_str(", not complete ");
-        push_decimal(&mut line, self.not_complete);
-        line.push_str(", refused ");
-        push_decimal(&mut line, self.refused);
+        push_count(&mut line, "tests ", self.all());
+        push_count(&mut line, ": Ok ", self.as_asked);
+        push_count(&mut line, ", No ", self.otherwise);
+        push_count(&mut line, ", not complete ", self.not_complete);
+        push_count(&mut line, ", refused ", self.refused);
         line.push_str("\n");
         out.write_all(line.as_bytes())
     }
@@ -163,21 +159,27 @@ impl Differences {
         ensures { OnOk result (Appends (W.contents out.old) (W.contents out.new) (differences_text self.now)) }
     {
         let mut line = LastLine::new();
-        line.push_str("tests ");
-        push_decimal(&mut line, self.all());
-        line.push_str(": the same ");
-        push_decimal(&mut line, self.same);
-        line.push_str(", changed ");
-        push_decimal(&mut line, self.changed);
-        line.push_str(", new ");
-        push_decimal(&mut line, self.new);
-        line.push_str(", not there ");
-        push_decimal(&mut line, self.gone);
-        line.push_str(", refused ");
-        push_decimal(&mut line, self.refused);
+        push_count(&mut line, "tests ", self.all());
+        push_count(&mut line, ": the same ", self.same);
+        push_count(&mut line, ", changed ", self.changed);
+        push_count(&mut line, ", new ", self.new);
+        push_count(&mut line, ", not there ", self.gone);
+        push_count(&mut line, ", refused ", self.refused);
         line.push_str("\n");
         out.write_all(line.as_bytes())
     }
+}
+
+/// Appends a count behind what it is of.
+#[tactic(auto, unfolding(crate::specs::Counting::count_text))]
+fn push_count(line: &mut LastLine, text: &'static str, count: u64)
+    requires short { length text.now ≤ 16 }
+    requires room { array_string_len line.old ≤ 200 }
+    ensures spelled { line.new.bytes ≡ line.old.bytes ++ count_text text.now count }
+    ensures length { array_string_len line.new ≤ array_string_len line.old + 36 }
+{
+    line.push_str(text);
+    push_decimal(line, count);
 }
 
 /// Two counts together, as they are counted in 64 bits.

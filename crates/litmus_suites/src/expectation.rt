@@ -64,9 +64,12 @@ impl<'a> Expectation<'a> {
         ensures taken { self.new.lines.items ≡ taken name.now self.old.lines.items }
     {
         let place = self.place_of(name);
-        let line = self.lines.get_mut(place)?;
-        line.is_over = true;
-        Some(line.verdict)
+        let Some(line) = self.lines.get(place) else {
+            return None;
+        };
+        let taken = line.taken();
+        self.lines[place] = taken;
+        Some(taken.verdict)
     }
 
     /// The place of the first line of this name that none has taken; behind all where there is none.

@@ -4,6 +4,7 @@ ghost use Rattle.std.specs.Prelude.{◌≡◌, ◌≤◌, ◌++◌, ◌&&◌, If
 ghost use Rattle.litmus_suites.specs.Reading.{AreLinesOf, IsSummaryLine, IsSummaryRefusal, before_blank, begins_with_line};
 ghost use Rattle.litmus_suites.specs.Reading.{behind_blank, is_asked, is_counts, is_word_of, line_of, name_before, name_in};
 ghost use Rattle.litmus_suites.specs.Reading.{name_of_whole, not_empty, number_in, without};
+ghost use Rattle.litmus_suites.specs.Expecting.{over};
 ghost use Rattle.text_fields.specs.Splitting.{field, rest};
 
 use std::alloc::Global;
@@ -18,6 +19,19 @@ pub(crate) struct ExpectedLine<'a> {
     pub(crate) verdict: &'a [u8],
     /// Whether a test has taken it. None takes a line of counts, which is over from the start.
     pub(crate) is_over: bool,
+}
+
+impl ExpectedLine<'_> {
+    /// The line once a test has taken it.
+    pub(crate) fn taken(&self) -> Self
+        ensures { result ≡ over self.now }
+    {
+        ExpectedLine {
+            name: self.name,
+            verdict: self.verdict,
+            is_over: true,
+        }
+    }
 }
 
 /// Why a text is no summary.
