@@ -16,16 +16,17 @@ const ENDING: &[u8] = b".litmus";
 /// A folder of which not all tests are taken.
 #[derive(Drop)]
 pub(crate) struct TestFolder {
-    /// Its path, with a slash behind it.
     path: String,
     /// The names of its tests, in the order of their bytes.
     names: Vec<Vec<u8>>,
     /// How many of them are taken.
     taken: usize,
+    /// Whether none so far is of a test, and that isn't told yet.
+    is_empty: bool,
 }
 
 impl TestFolder {
-    /// Reads the names in a folder. Refused where none is of a test.
+    /// Reads the names in a folder.
     pub(crate) fn open<S: Files>(system: &S, path: &str, alloc: Global) -> Result<Self, Absent> {
         let Ok(with_slash) = with_slash(path, alloc) else {
             return Err(Absent::for_memory(alloc));
@@ -38,34 +39,47 @@ impl TestFolder {
             Ok(all) => all,
             Err(refused) => return Err(Absent::unread(path, refused, alloc)),
         };
-        match tests_among(all.as_slice(), alloc) {
-            Ok(names) if names.is_empty() => {
-                Err(Absent::at(path.as_bytes(), NoTest::Empty, None, alloc))
-            }
-            Ok(names) => Ok(TestFolder {
-                path: with_slash,
+        let Ok(names) = tests_among(all.as_slice(), alloc) else {
+            return Err(Absent::for_memory(alloc));
+        };
+        match String::from_str(alloc, path) {
+            Ok(path) => Ok(TestFolder {
+                path,
                 names,
                 taken: 0,
+                is_empty: true,
             }),
             Err(AllocError) => Err(Absent::for_memory(alloc)),
         }
     }
 
-    /// The path of the next test; none behind the last. A folder with such a name is none.
+    /// The path of the next test; none behind the last. A folder with such a name is none. Where there is no test at all,
+    /// that is refused.
     pub(crate) fn next_path<S: Files>(
         &mut self,
         system: &S,
         alloc: Global,
     ) -> Option<Result<String, Absent>> {
         for _turn in 0..u64::MAX {
-            let name = self.names.get(self.taken)?;
+            let Some(name) = self.names.get(self.taken) else {
+                break;
+            };
+            let next = self.path_of(name.as_slice(), alloc);
             self.taken = self.taken.saturating_add(1);
-            match self.path_of(name.as_slice(), alloc) {
+            match next {
                 Ok(path) if is_folder(system, path.as_str()) => {}
-                other => return Some(other),
+                other => {
+                    self.is_empty = false;
+                    return Some(other);
+                }
             }
         }
-        None
+        if !self.is_empty {
+            return None;
+        }
+        self.is_empty = false;
+        let path = self.path.as_bytes();
+        Some(Err(Absent::at(path, NoTest::Empty, None, alloc)))
     }
 
     /// The path of the file with this name. One that is no text can't be read.
@@ -87,12 +101,17 @@ impl TestFolder {
     }
 }
 
+/// The path of what has this name in a folder.
 fn joined(folder: &str, name: &[u8], alloc: Global) -> Result<Vec<u8>, AllocError> {
     let mut path = Vec::from_slice(alloc, folder.as_bytes())?;
+    if !folder.ends_with('/') {
+        path.push(b'/')?;
+    }
     path.extend_from_slice(name)?;
     Ok(path)
 }
 
+/// The path of a folder, with a slash behind it.
 fn with_slash(path: &str, alloc: Global) -> Result<String, AllocError> {
     let mut with_slash = String::from_str(alloc, path)?;
     if !path.ends_with('/') {

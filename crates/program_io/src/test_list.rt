@@ -14,7 +14,7 @@ pub(crate) struct TestList {
     at: usize,
     /// The number of the line that was read last; 0 before the first.
     line: usize,
-    /// Whether no line so far has a name.
+    /// Whether no line so far has a name, and that isn't told yet.
     is_empty: bool,
 }
 
@@ -49,6 +49,7 @@ impl TestList {
                 Err(absent) => Err(absent),
             },
             Ok(None) if self.is_empty => {
+                self.is_empty = false;
                 Err(Absent::at(self.path.as_bytes(), NoTest::Empty, None, alloc))
             }
             Ok(None) => Ok(None),
@@ -66,12 +67,11 @@ impl TestList {
             }
             let (line, behind) = split_field(left, b'\n');
             let word = split_field(line, b'#').0.trim_ascii();
-            let word = Vec::from_slice(alloc, word)?;
             self.at = self.text.len().saturating_sub(behind.len());
             self.line = self.line.saturating_add(1);
             if !word.is_empty() {
                 self.is_empty = false;
-                return Ok(Some(word));
+                return Ok(Some(Vec::from_slice(alloc, word)?));
             }
         }
         Ok(None)

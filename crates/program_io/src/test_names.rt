@@ -158,12 +158,14 @@ impl<'a, S: Files + Input> TestNames<'a, S> {
             let Some(mut list) = self.lists.pop() else {
                 break;
             };
-            if let Some(name) = list.next_name(self.alloc)? {
-                return match self.lists.push(list) {
-                    Ok(()) => Ok(Some(name)),
-                    Err(_) => Err(Absent::for_memory(self.alloc)),
-                };
+            let next = list.next_name(self.alloc);
+            if let Ok(None) = next {
+                continue;
             }
+            return match self.lists.push(list) {
+                Ok(()) => next,
+                Err(_) => Err(Absent::for_memory(self.alloc)),
+            };
         }
         let Some(word) = self.words.get(self.taken) else {
             return Ok(None);
