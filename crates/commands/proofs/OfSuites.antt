@@ -13,8 +13,8 @@ use Rattle.litmus_suites.specs.Counting.{status_of as status_of_differences}
 use Rattle.sim_inputs.specs.declared.line.LitmusCommand.{LitmusCommand}
 use Rattle.command_parts.specs.declared.refused.Refused.{Refused}
 use Rattle.plain_commands.specs.Litmus.{LitmusComesTo}
-use Rattle.plain_commands.specs.Suite.{AllHaveCome, CameOf, HaveCome, IsFinished, IsKnown, IsMade, SuiteComesTo, status_of}
-use Rattle.plain_commands.specs.declared.telling.{Telling.Telling, LineTelling.LineTelling}
+use Rattle.plain_commands.specs.Suite.{CameOf, HaveCome, IsFinished, IsKnown, IsMade, SuiteComesTo, status_of}
+use Rattle.plain_commands.specs.declared.telling.Telling.{Telling}
 use Rattle.plain_commands.specs.declared.telling.Telling.TheVariants.{States, Lines}
 use Rattle.plain_commands.specs.declared.telling.LineTelling.TheVariants.{Summary, Comparison}
 use Rattle.commands.proofs.OfLine.{known_refusal}

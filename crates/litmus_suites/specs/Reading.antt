@@ -1,7 +1,7 @@
 -- The lines of a summary that was printed before, as its text has them. (This project's own choice.)
-use Rattle.std.specs.Prelude.{◌≡◌, ℕ, ◌+◌, ◌-◌, ◌^◌, ◌==◌, ◌≤◌, ◌&&◌, ◌||◌, Bool, true, false, if◌then◌else◌}
-use Rattle.std.specs.Prelude.{List, [], ◌∷◌, ◌++◌, All, codes, drop, flat_map, length, reverse, take}
-use Rattle.std.specs.Prelude.{Option, Some, None, is_some, Result, Ok, Err}
+use Rattle.std.specs.Prelude.{◌≡◌, ℕ, ◌+◌, ◌-◌, ◌^◌, ◌==◌, ◌&&◌, ◌||◌, Bool, true, false, if◌then◌else◌}
+use Rattle.std.specs.Prelude.{List, [], ◌∷◌, ◌++◌, All, codes, flat_map, length, reverse, take}
+use Rattle.std.specs.Prelude.{Option, Some, None, is_some}
 use Rattle.std.specs.{Str.bytes_eq, Result.result_ok}
 use Rattle.std.specs.List.{starts_with, ends_with}
 use Rattle.text_fields.specs.{Reading.decimal_field, Splitting.field, Splitting.field_count, Splitting.rest}

@@ -1,6 +1,6 @@
 //! What the tests of a suite are held against: the lines of a summary that was printed before.
 
-ghost use Rattle.std.specs.Prelude.{◌≡◌, ◌%◌, ◌^◌, IfErr, IfOk, OnOk, option_map};
+ghost use Rattle.std.specs.Prelude.{◌≡◌, IfErr, IfOk, OnOk, option_map};
 ghost use Rattle.std.specs.Io.KnownBytes.{Appends};
 ghost use Rattle.litmus_suites.specs.Lines.{verdict_text};
 ghost use Rattle.litmus_suites.specs.Reading.{AreLinesOf, IsSummaryRefusal};

@@ -1,11 +1,11 @@
 //! The lines of a summary that was printed before.
 
-ghost use Rattle.std.specs.Prelude.{◌≡◌, ◌≤◌, ◌++◌, ◌&&◌, IfErr, IfNone, IfOk, IfSome, false, is_some, length, option_map, take};
+ghost use Rattle.std.specs.Prelude.{◌≡◌, ◌≤◌, ◌||◌, ◌∷◌, ◌++◌, IfErr, IfOk, IfSome, is_some, length, option_map, take};
 ghost use Rattle.litmus_suites.specs.Reading.{AreLinesOf, IsSummaryLine, IsSummaryRefusal, before_blank, begins_with_line};
 ghost use Rattle.litmus_suites.specs.Reading.{behind_blank, is_asked, is_counts, is_word_of, line_of, name_before, name_in};
-ghost use Rattle.litmus_suites.specs.Reading.{name_of_whole, not_empty, number_in, without};
+ghost use Rattle.litmus_suites.specs.Reading.{name_of_whole, not_empty, number_in};
 ghost use Rattle.litmus_suites.specs.Expecting.{over};
-ghost use Rattle.text_fields.specs.Splitting.{field, rest};
+ghost use Rattle.text_fields.specs.Splitting.{rest};
 
 use std::alloc::Global;
 use text_fields::{field_count, read_decimal, split_field};

@@ -1,5 +1,5 @@
 -- What is said of a test in a line.
-use Rattle.std.specs.Prelude.{◌≡◌, ◌⊎◌, ℕ, Option, Result, Ok, Err, IfOk, length, is_some}
+use Rattle.std.specs.Prelude.{◌≡◌, ℕ, Result, Ok, Err, IfOk, length, is_some}
 use Rattle.std.proofs.Common.{refl, subst}
 use mathlib.Core.Logic.{inl, inr}
 use Rattle.elf_image.specs.Image.{ProgramImage}

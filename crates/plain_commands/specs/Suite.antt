@@ -1,5 +1,5 @@
 -- Many litmus tests in one command. (This project's own choice, after herd's lists of tests.)
-use Rattle.std.specs.Prelude.{◌≡◌, ◌⊎◌, IsTrue, ℕ, ◌-◌, Bool, List, [], ◌∷◌, ◌++◌, length, map, Option, Some, None, is_some, Result, Ok, Err}
+use Rattle.std.specs.Prelude.{◌≡◌, ◌⊎◌, IsTrue, ℕ, ◌-◌, Bool, List, [], ◌∷◌, ◌++◌, length, map, Option, Some, None, is_some, Ok, Err}
 use Rattle.std.specs.Io.KnownBytes.{Appends, Keeps}
 use Rattle.elf_image.specs.Image.{ProgramImage}
 use Rattle.watched_outcomes.specs.{declared.watch.Watch.Watch}

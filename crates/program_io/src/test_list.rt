@@ -67,11 +67,14 @@ impl TestList {
             }
             let (line, behind) = split_field(left, b'\n');
             let word = split_field(line, b'#').0.trim_ascii();
+            let copied = Vec::from_slice(alloc, word);
             self.at = self.text.len().saturating_sub(behind.len());
             self.line = self.line.saturating_add(1);
+            // Behind this line also where there is no memory for it.
+            let word = copied?;
             if !word.is_empty() {
                 self.is_empty = false;
-                return Ok(Some(Vec::from_slice(alloc, word)?));
+                return Ok(Some(word));
             }
         }
         Ok(None)

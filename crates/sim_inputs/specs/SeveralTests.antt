@@ -1,5 +1,5 @@
 -- Litmus tests of which there are several. (This project's own choice, after herd's lists.)
-use Rattle.std.specs.Prelude.{ℕ, nat_lt, ◌==◌, Bool, false, ◌&&◌, ◌||◌, not, List, [], length, Option, is_some, slice_get}
+use Rattle.std.specs.Prelude.{ℕ, nat_lt, ◌==◌, Bool, false, ◌&&◌, ◌||◌, not, List, [], length, is_some, slice_get}
 use Rattle.std.specs.Prelude.{codes, unwrap_or, option_and_then}
 use Rattle.std.specs.{Option.option_map_or, List.list_any}
 use Rattle.clap.specs.Words.{Row, Text, all_of, subcommand_of}
