@@ -1,12 +1,69 @@
 -- The tests of a suite, one behind the other.
-use Rattle.std.specs.Prelude.{◌≡◌, ℕ, List, [], ◌∷◌, map, Option, Some, None}
+use Rattle.std.specs.Prelude.{◌≡◌, ℕ, List, [], ◌∷◌, map, Option, Some, None, Ok}
 use Rattle.std.proofs.Common.{refl, ap, ◌∙◌}
+use mathlib.Core.Logic.{inl, inr}
+use Rattle.std.specs.Io.KnownBytes.{Appends, Keeps}
 use Rattle.litmus_suites.specs.Sources.{GivenTest}
+use Rattle.litmus_suites.specs.Lines.{verdict_text}
+use Rattle.litmus_suites.specs.Expecting.{counterpart, met_of, met_text, taken}
+use Rattle.litmus_suites.specs.Counting.{noted}
+use Rattle.litmus_suites.specs.declared.verdict.TestLine.{TestLine}
+use Rattle.litmus_suites.specs.declared.expectation.Expectation.{Expectation}
+use Rattle.litmus_suites.specs.declared.counts.Differences.{Differences}
 use Rattle.litmus_suites.specs.Statuses.{worse, worst}
 use Rattle.sim_inputs.specs.declared.line.LitmusCommand.{LitmusCommand}
 use Rattle.command_parts.specs.declared.refused.Refused.{Refused}
-use Rattle.plain_commands.specs.Suite.{AllHaveCome, CameOf, HaveCome}
-use Rattle.plain_commands.specs.declared.telling.Telling.{Telling}
+use Rattle.command_parts.specs.declared.refused.Refused.TheVariants.{Output}
+use Rattle.command_parts.specs.Refused.{exit_status_of}
+use Rattle.plain_commands.specs.Suite.{AllHaveCome, CameOf, HaveCome, IsMade, IsRefusedTest, IsSummaryOf, IsSummed, IsTold}
+use Rattle.plain_commands.specs.Suite.{refused_more, status_of}
+use Rattle.plain_commands.specs.declared.telling.{Telling.Telling, LineTelling.LineTelling}
+use Rattle.plain_commands.specs.declared.telling.Telling.TheVariants.{Lines}
+use Rattle.plain_commands.specs.declared.telling.LineTelling.TheVariants.{Comparison}
+
+-- what was printed of a line
+pub compared_so : (line : TestLine) (expected left : Expectation) (differences : Differences) (old new : Option (List ℕ))
+    → left.lines.items ≡ taken line.name.items expected.lines.items
+    → Appends old new (met_text line.name.items (counterpart line.name.items expected.lines.items) (verdict_text line.verdict))
+    → IsTold line (Comparison expected differences) (Comparison left
+      (noted (met_of (counterpart line.name.items expected.lines.items) (verdict_text line.verdict)) differences)) old new
+compared_so line expected left differences old new is_left printed = (left, is_left, refl, printed)
+
+pub summed_so : (states : ℕ) (line : TestLine) (before after : LineTelling) (old new : Option (List ℕ)) (status : ℕ)
+    → IsSummaryOf states line → IsTold line before after old new → status ≡ status_of line.verdict
+    → IsSummed states before after old new status
+summed_so states line before after old new status summary told is =
+    record { line = line; summary = summary; told = told; is = is }
+
+pub lines_so : (command : LitmusCommand) (before after : LineTelling) (old new : Option (List ℕ)) (status : ℕ)
+    → IsSummed command.states before after old new status → IsMade command (Lines before) (Lines after) old new status
+lines_so command before after old new status summed = (after, refl, summed)
+
+-- what came of a test
+pub made_so : {S : Type 0} (hears : S → Refused → S → Type 0) (command : LitmusCommand) (text : List ℕ) (source : S)
+    (before after : Telling) (old printed new : Option (List ℕ)) (status : ℕ)
+    → IsMade command before after old printed status → Keeps printed new
+    → CameOf hears command (Ok text) source source before after old new status
+made_so hears command text source before after old printed new status made flushed =
+    inl (refl, record { printed = printed; made = made; flushed = flushed })
+
+pub refused_so : {S : Type 0} (hears : S → Refused → S → Type 0) (command : LitmusCommand) (text : List ℕ)
+    (given left : S) (before mid after : Telling) (old new : Option (List ℕ)) (reason : Refused) (status : ℕ)
+    → IsRefusedTest command text before mid old new reason → (reason ≡ Output → ⊥) → hears given reason left
+    → after ≡ refused_more mid → status ≡ exit_status_of reason
+    → CameOf hears command (Ok text) given left before after old new status
+refused_so hears command text given left before mid after old new reason status refused other heard counts is =
+    elim refused.1 [
+      | inl output ↦ absurd (other output)
+      | inr same ↦ inr (record {
+        reason = reason;
+        refusal = refused.0;
+        heard = heard;
+        counts = counts ∙ ap refused_more same.0;
+        unprinted = same.1;
+        is = is;
+      })
+    ]
 
 module _ {S : Type 0} (gives : S → Option GivenTest → S → Type 0) (hears : S → Refused → S → Type 0)
     (command : LitmusCommand) where
