@@ -43,7 +43,7 @@ counts_text counts = count_text (codes "tests ") (all_of counts) ++ (count_text 
 abbrev pub noted : Met → Differences → Differences
 noted Same differences = record differences { same = more differences.same }
 noted Changed differences = record differences { changed = more differences.changed }
-noted New differences = record differences { new = more differences.new }
+noted New differences = record differences { added = more differences.added }
 
 abbrev pub noted_refused : Differences → Differences
 noted_refused differences = record differences { refused = more differences.refused }
@@ -51,15 +51,15 @@ noted_refused differences = record differences { refused = more differences.refu
 -- The exit status is 1 where something differs.
 abbrev pub status_of : Differences → ℕ
 status_of differences =
-    if (differences.changed == 0 && differences.new == 0) && differences.gone == 0 then 0 else 1
+    if (differences.changed == 0 && differences.added == 0) && differences.gone == 0 then 0 else 1
 
 abbrev pub tests_of : Differences → ℕ
-tests_of differences = sum (sum (sum differences.same differences.changed) differences.new) differences.refused
+tests_of differences = sum (sum (sum differences.same differences.changed) differences.added) differences.refused
 
 unfoldable pub differences_text : Differences → List ℕ
 differences_text differences = count_text (codes "tests ") (tests_of differences)
     ++ (count_text (codes ": the same ") differences.same ++ (count_text (codes ", changed ") differences.changed
-    ++ (count_text (codes ", new ") differences.new ++ (count_text (codes ", not there ") differences.gone
+    ++ (count_text (codes ", new ") differences.added ++ (count_text (codes ", not there ") differences.gone
     ++ (count_text (codes ", refused ") differences.refused ++ codes "\n")))))
 
 -- The counts of no test.
@@ -67,4 +67,4 @@ abbrev pub no_counts : Counts
 no_counts = record { as_asked = 0; otherwise = 0; not_complete = 0; refused = 0 }
 
 abbrev pub no_differences : Differences
-no_differences = record { same = 0; changed = 0; new = 0; gone = 0; refused = 0 }
+no_differences = record { same = 0; changed = 0; added = 0; gone = 0; refused = 0 }

@@ -77,9 +77,16 @@ impl Counts {
     }
 
     /// Writes the last line of a summary.
-    #[tactic(auto, unfolding(crate::specs::Counting::counts_text))]
     pub fn write<W: Write>(&self, out: &mut W) -> io::Result<()>
         ensures { OnOk result (Appends (W.contents out.old) (W.contents out.new) (counts_text self.now)) }
+    {
+        out.write_all(self.text().as_bytes())
+    }
+
+    /// The last line of a summary.
+    #[tactic(auto, unfolding(crate::specs::Counting::counts_text))]
+    fn text(&self) -> LastLine
+        ensures { result.bytes ≡ counts_text self.now }
     {
         let mut line = LastLine::new();
         push_count(&mut line, "tests ", self.all());
@@ -88,7 +95,7 @@ impl Counts {
         push_count(&mut line, ", not complete ", self.not_complete);
         push_count(&mut line, ", refused ", self.refused);
         line.push_str("\n");
-        out.write_all(line.as_bytes())
+        line
     }
 }
 
@@ -100,7 +107,7 @@ pub struct Differences {
     /// How many have another one.
     pub changed: u64,
     /// How many take none.
-    pub new: u64,
+    pub added: u64,
     /// How many lines no test has taken.
     pub gone: u64,
     /// How many tests are refused, or aren't there.
@@ -112,7 +119,7 @@ impl Differences {
     pub const NONE: Differences = Differences {
         same: 0,
         changed: 0,
-        new: 0,
+        added: 0,
         gone: 0,
         refused: 0,
     };
@@ -124,7 +131,7 @@ impl Differences {
         match met {
             Met::Same => self.same = sum(self.same, 1),
             Met::Changed => self.changed = sum(self.changed, 1),
-            Met::New => self.new = sum(self.new, 1),
+            Met::New => self.added = sum(self.added, 1),
         }
     }
 
@@ -139,7 +146,7 @@ impl Differences {
     pub fn status(&self) -> u8
         ensures { result ≡ status_of self.now }
     {
-        if self.changed == 0 && self.new == 0 && self.gone == 0 {
+        if self.changed == 0 && self.added == 0 && self.gone == 0 {
             0
         } else {
             1
@@ -150,23 +157,30 @@ impl Differences {
     fn all(&self) -> u64
         ensures { result ≡ tests_of self.now }
     {
-        sum(sum(sum(self.same, self.changed), self.new), self.refused)
+        sum(sum(sum(self.same, self.changed), self.added), self.refused)
     }
 
     /// Writes the last line.
-    #[tactic(auto, unfolding(crate::specs::Counting::differences_text))]
     pub fn write<W: Write>(&self, out: &mut W) -> io::Result<()>
         ensures { OnOk result (Appends (W.contents out.old) (W.contents out.new) (differences_text self.now)) }
+    {
+        out.write_all(self.text().as_bytes())
+    }
+
+    /// The last line.
+    #[tactic(auto, unfolding(crate::specs::Counting::differences_text))]
+    fn text(&self) -> LastLine
+        ensures { result.bytes ≡ differences_text self.now }
     {
         let mut line = LastLine::new();
         push_count(&mut line, "tests ", self.all());
         push_count(&mut line, ": the same ", self.same);
         push_count(&mut line, ", changed ", self.changed);
-        push_count(&mut line, ", new ", self.new);
+        push_count(&mut line, ", new ", self.added);
         push_count(&mut line, ", not there ", self.gone);
         push_count(&mut line, ", refused ", self.refused);
         line.push_str("\n");
-        out.write_all(line.as_bytes())
+        line
     }
 }
 
