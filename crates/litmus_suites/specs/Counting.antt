@@ -27,7 +27,7 @@ counted NotComplete counts = record counts { not_complete = more counts.not_comp
 abbrev pub counted_refused : Counts → Counts
 counted_refused counts = record counts { refused = more counts.refused }
 
-abbrev pub all_of : Counts → ℕ
+unfoldable pub all_of : Counts → ℕ
 all_of counts = sum (sum (sum counts.as_asked counts.otherwise) counts.not_complete) counts.refused
 
 -- A count behind what it is of.

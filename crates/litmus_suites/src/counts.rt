@@ -67,6 +67,7 @@ impl Counts {
     }
 
     /// How many there are.
+    #[tactic(auto, unfolding(crate::specs::Counting::all_of))]
     fn all(&self) -> u64
         ensures { result ≡ all_of self.now }
     {
