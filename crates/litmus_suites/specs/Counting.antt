@@ -34,10 +34,12 @@ all_of counts = sum (sum (sum counts.as_asked counts.otherwise) counts.not_compl
 unfoldable pub count_text : List ℕ → ℕ → List ℕ
 count_text text count = text ++ decimal count
 
+unfoldable pub kinds_text : Counts → List ℕ
+kinds_text counts = count_text (codes ": Ok ") counts.as_asked ++ (count_text (codes ", No ") counts.otherwise
+    ++ (count_text (codes ", not complete ") counts.not_complete ++ count_text (codes ", refused ") counts.refused))
+
 unfoldable pub counts_text : Counts → List ℕ
-counts_text counts = count_text (codes "tests ") (all_of counts) ++ (count_text (codes ": Ok ") counts.as_asked
-    ++ (count_text (codes ", No ") counts.otherwise ++ (count_text (codes ", not complete ") counts.not_complete
-    ++ (count_text (codes ", refused ") counts.refused ++ codes "\n"))))
+counts_text counts = count_text (codes "tests ") (all_of counts) ++ (kinds_text counts ++ codes "\n")
 
 -- One more test that is this beside the line that it takes, and one that is refused.
 abbrev pub noted : Met → Differences → Differences

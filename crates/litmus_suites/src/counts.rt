@@ -4,7 +4,7 @@ ghost use Rattle.std.specs.Prelude.{◌≡◌, ◌≤◌, ◌+◌, ◌++◌, OnO
 ghost use Rattle.arrayvec.specs.ArrayString.{array_string_len};
 ghost use Rattle.std.specs.Io.KnownBytes.{Appends};
 ghost use Rattle.litmus_suites.specs.Counting.{all_of, counted, counted_refused, counted_whole, counts_text, differences_text};
-ghost use Rattle.litmus_suites.specs.Counting.{count_text, noted, noted_refused, status_of, sum, tests_of};
+ghost use Rattle.litmus_suites.specs.Counting.{count_text, kinds_text, noted, noted_refused, status_of, sum, tests_of};
 
 use crate::expectation::Met;
 use crate::verdict::Verdict;
@@ -91,12 +91,22 @@ impl Counts {
     {
         let mut line = LastLine::new();
         push_count(&mut line, "tests ", self.all());
-        push_count(&mut line, ": Ok ", self.as_asked);
-        push_count(&mut line, ", No ", self.otherwise);
-        push_count(&mut line, ", not complete ", self.not_complete);
-        push_count(&mut line, ", refused ", self.refused);
+        self.push_kinds(&mut line);
         line.push_str("\n");
         line
+    }
+
+    /// Appends how many there are of each kind.
+    #[tactic(auto, unfolding(crate::specs::Counting::kinds_text))]
+    fn push_kinds(&self, line: &mut LastLine)
+        requires { array_string_len line.old ≤ 40 }
+        ensures spelled { line.new.bytes ≡ line.old.bytes ++ kinds_text self.now }
+        ensures length { array_string_len line.new ≤ 200 }
+    {
+        push_count(line, ": Ok ", self.as_asked);
+        push_count(line, ", No ", self.otherwise);
+        push_count(line, ", not complete ", self.not_complete);
+        push_count(line, ", refused ", self.refused);
     }
 }
 
