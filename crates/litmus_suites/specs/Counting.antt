@@ -34,9 +34,15 @@ all_of counts = sum (sum (sum counts.as_asked counts.otherwise) counts.not_compl
 unfoldable pub count_text : List ℕ → ℕ → List ℕ
 count_text text count = text ++ decimal count
 
+unfoldable pub made_text : ℕ → ℕ → List ℕ
+made_text as_asked otherwise = count_text (codes ": Ok ") as_asked ++ count_text (codes ", No ") otherwise
+
+unfoldable pub others_text : ℕ → ℕ → List ℕ
+others_text not_complete refused =
+    codes ", not" ++ (count_text (codes " complete ") not_complete ++ count_text (codes ", refused ") refused)
+
 unfoldable pub kinds_text : Counts → List ℕ
-kinds_text counts = count_text (codes ": Ok ") counts.as_asked ++ (count_text (codes ", No ") counts.otherwise
-    ++ (count_text (codes ", not complete ") counts.not_complete ++ count_text (codes ", refused ") counts.refused))
+kinds_text counts = made_text counts.as_asked counts.otherwise ++ others_text counts.not_complete counts.refused
 
 unfoldable pub counts_text : Counts → List ℕ
 counts_text counts = count_text (codes "tests ") (all_of counts) ++ (kinds_text counts ++ codes "\n")

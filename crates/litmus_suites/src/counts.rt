@@ -4,7 +4,7 @@ ghost use Rattle.std.specs.Prelude.{◌≡◌, ◌≤◌, ◌+◌, ◌++◌, OnO
 ghost use Rattle.arrayvec.specs.ArrayString.{array_string_len};
 ghost use Rattle.std.specs.Io.KnownBytes.{Appends};
 ghost use Rattle.litmus_suites.specs.Counting.{all_of, counted, counted_refused, counted_whole, counts_text, differences_text};
-ghost use Rattle.litmus_suites.specs.Counting.{count_text, kinds_text, noted, noted_refused, status_of, sum, tests_of};
+ghost use Rattle.litmus_suites.specs.Counting.{count_text, kinds_text, made_text, noted, others_text, noted_refused, status_of, sum, tests_of};
 
 use crate::expectation::Met;
 use crate::verdict::Verdict;
@@ -103,10 +103,8 @@ impl Counts {
         ensures spelled { line.new.bytes ≡ line.old.bytes ++ kinds_text self.now }
         ensures length { array_string_len line.new ≤ 200 }
     {
-        push_count(line, ": Ok ", self.as_asked);
-        push_count(line, ", No ", self.otherwise);
-        push_count(line, ", not complete ", self.not_complete);
-        push_count(line, ", refused ", self.refused);
+        push_made(line, self.as_asked, self.otherwise);
+        push_others(line, self.not_complete, self.refused);
     }
 }
 
@@ -205,6 +203,29 @@ fn push_count(line: &mut LastLine, text: &'static str, count: u64)
 {
     line.push_str(text);
     push_decimal(line, count);
+}
+
+/// Appends how many tests are as they ask, and how many aren't.
+#[tactic(auto, unfolding(crate::specs::Counting::made_text))]
+fn push_made(line: &mut LastLine, as_asked: u64, otherwise: u64)
+    requires { array_string_len line.old ≤ 40 }
+    ensures spelled { line.new.bytes ≡ line.old.bytes ++ made_text as_asked otherwise }
+    ensures length { array_string_len line.new ≤ 120 }
+{
+    push_count(line, ": Ok ", as_asked);
+    push_count(line, ", No ", otherwise);
+}
+
+/// Appends how many others there are.
+#[tactic(auto, unfolding(crate::specs::Counting::others_text))]
+fn push_others(line: &mut LastLine, not_complete: u64, refused: u64)
+    requires { array_string_len line.old ≤ 120 }
+    ensures spelled { line.new.bytes ≡ line.old.bytes ++ others_text not_complete refused }
+    ensures length { array_string_len line.new ≤ 200 }
+{
+    line.push_str(", not");
+    push_count(line, " complete ", not_complete);
+    push_count(line, ", refused ", refused);
 }
 
 /// Two counts together, as they are counted in 64 bits.
