@@ -20,7 +20,7 @@ use watched_outcomes::Outcome;
 /// Writes the line of a state: what is looked at, in the test's order, and each hart that stopped otherwise
 /// than at its EBREAK; one space between two.
 #[tactic(auto, unfolding(crate::specs::State::state_line))]
-pub(crate) fn write_state<W: Write>(
+pub fn write_state<W: Write>(
     test: &LitmusTest,
     outcome: &Outcome,
     out: &mut W,

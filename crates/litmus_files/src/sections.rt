@@ -1,0 +1,85 @@
+//! Where the parts of a file lie that aren't loaded (ELF32, "Sections").
+
+ghost use Rattle.std.specs.Prelude.{◌≡◌, ◌≤◌, ◌<◌, ◌+◌, ◌++◌, ◌^◌, length, take, drop, OnOk};
+ghost use Rattle.litmus_files.specs.File.{located, section_headers, spoken_for, strings_located, symbols_located};
+
+use crate::names::push_words;
+use elf_image::RAM_START;
+use std::alloc::AllocError;
+
+/// The size of a section's header in bytes.
+const HEADER: u32 = 40;
+
+/// The size of a symbol's entry in bytes.
+const ENTRY: u32 = 16;
+
+/// Where the words of the locations lie in the file: behind its header and those of two segments.
+const LOCATIONS_BEGIN: u32 = 116;
+
+/// How long a part of a file is.
+#[derive(Clone, Copy, Drop)]
+pub(crate) struct Lengths {
+    /// Of the file of the image, in bytes.
+    pub(crate) image: u32,
+    /// How many locations there are.
+    pub(crate) locations: u32,
+    /// Of all names, in bytes.
+    pub(crate) strings: u32,
+}
+
+/// Appends the headers of four sections: one that is empty, the words of the locations, the table of symbols, and the
+/// names. The last two lie behind these headers.
+#[tactic(auto, unfolding(crate::specs::File::section_headers))]
+pub(crate) fn push_sections(file: &mut Vec<u8>, lengths: Lengths) -> Result<(), AllocError>
+    requires image { lengths.image ≤ 16777216 }
+    requires locations { lengths.locations ≤ 64 }
+    ensures { OnOk result (file.new.items ≡ file.old.items
+        ++ section_headers lengths.image lengths.locations lengths.strings) }
+{
+    file.extend_from_slice(&[0; 40])?;
+    push_locations(file, lengths.locations)?;
+    let symbols = lengths.image + 4 * HEADER;
+    let entries = ENTRY * (lengths.locations + 1);
+    push_symbols(file, symbols, entries)?;
+    push_strings(file, symbols + entries, lengths.strings)
+}
+
+/// Appends the header of the section of so many locations: their words, which are loaded and may be written.
+#[tactic(auto, unfolding(crate::specs::File::located))]
+fn push_locations(file: &mut Vec<u8>, count: u32) -> Result<(), AllocError>
+    requires { count ≤ 64 }
+    ensures { OnOk result (file.new.items ≡ file.old.items ++ located count) }
+{
+    push_words(file, &[1, 1, 3, RAM_START, LOCATIONS_BEGIN, 4 * count, 0, 0, 4, 0])
+}
+
+/// Appends the header of the table of symbols. The first that all parts of the program know is its second.
+#[tactic(auto, unfolding(crate::specs::File::symbols_located))]
+fn push_symbols(file: &mut Vec<u8>, begin: u32, length: u32) -> Result<(), AllocError>
+    ensures { OnOk result (file.new.items ≡ file.old.items ++ symbols_located begin length) }
+{
+    push_words(file, &[12, 2, 0, 0, begin, length, 3, 1, 4, ENTRY])
+}
+
+/// Appends the header of the names.
+#[tactic(auto, unfolding(crate::specs::File::strings_located))]
+fn push_strings(file: &mut Vec<u8>, begin: u32, length: u32) -> Result<(), AllocError>
+    ensures { OnOk result (file.new.items ≡ file.old.items ++ strings_located begin length) }
+{
+    push_words(file, &[20, 3, 0, 0, begin, length, 0, 0, 1, 0])
+}
+
+/// Appends the file of an image, with what its header says of sections: they are four, behind it, and the last has their
+/// names.
+#[tactic(auto, unfolding(crate::specs::File::spoken_for))]
+pub(crate) fn push_image(file: &mut Vec<u8>, image: &[u8]) -> Result<(), AllocError>
+    requires header { 52 ≤ length image.now }
+    requires few { length image.now ≤ 16777216 }
+    ensures { OnOk result (file.new.items ≡ file.old.items ++ spoken_for image.now) }
+{
+    file.extend_from_slice(&image[..32])?;
+    push_words(file, &[image.len() as u32])?;
+    file.extend_from_slice(&image[36..46])?;
+    file.extend_from_slice(&[40, 0, 4, 0, 3, 0])?;
+    file.extend_from_slice(&image[52..])
+}

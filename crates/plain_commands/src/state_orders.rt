@@ -1,0 +1,188 @@
+//! The order of harts that leads to a final state of a litmus test, which the command `litmus` writes as `outcomes` writes
+//! that of an outcome. Its story has the test's names, and the state's line behind it.
+
+ghost use Rattle.std.specs.Prelude.{◌≡◌, ◌⊎◌, ◌<◌, ◌≤◌, ◌-◌, IfOk, IfErr, IfSome, IfNone, OnOk, Some, None, true, false};
+ghost use Rattle.std.specs.Prelude.{length, slice_get};
+ghost use Rattle.event_text.specs.Sinking.{HasPut};
+ghost use Rattle.litmus_tests.specs.WellFormed.{IsWellFormed};
+ghost use Rattle.litmus_text.specs.{State.told_line, States.passes, States.told_in};
+ghost use Rattle.outcomes.specs.{Found.Told};
+ghost use Rattle.sim_inputs.specs.TestOrders.{order_asked};
+ghost use Rattle.command_parts.specs.declared.refused.Refused.TheVariants.{Memory};
+ghost use Rattle.plain_commands.specs.StateOrders.{HasWrittenState, IsStateRefusal, IsStateWritten};
+ghost use Rattle.plain_commands.specs.WrittenOrders.{IsTextRefusal};
+
+use crate::written_orders::put_order;
+use address_labels::Labels;
+use command_parts::{Refused, names_in};
+use elf_image::Image;
+use litmus_files::file_of;
+use litmus_images::passes;
+use litmus_tests::LitmusTest;
+use litmus_text::write_state;
+use outcomes::Outcomes;
+use sim_inputs::{LitmusCommand, Settings};
+use std::alloc::{AllocError, Global};
+use story_text::StoryForm;
+use stress_runs::EndFiles;
+
+/// Puts the order of the final state into the file that a command names by its line, where it names one: as it is, as
+/// its script, as its story or as a picture of that. `outcomes` are those of the test's image, and all of them.
+/// `NoOutcome` is answered where there are fewer states, and what `perform_schedule` and a picture refuse.
+pub(crate) fn put_state_order<S: EndFiles>(
+    test: &LitmusTest,
+    image: &Image,
+    settings: &Settings,
+    outcomes: &Outcomes,
+    command: &LitmusCommand<'_>,
+    file: &mut S,
+    alloc: Global,
+) -> Result<(), Refused>
+    requires sound { IsWellFormed test.now }
+    requires works { S.has_failed file.old ≡ false }
+    requires finished { S.is_finished file.old ≡ true }
+    ensures refused { IfErr result
+        (IsStateRefusal settings.now image.now test.now command.now outcomes.now.listed) }
+    ensures written { OnOk result (HasWrittenState settings.now image.now test.now command.now
+        (HasPut S.written S.has_failed file.old file.new) command.now.outcome outcomes.now.listed) }
+    ensures unwanted { command.now.outcome ≡ None → file.new ≡ file.old }
+    ensures unbroken { OnOk result (S.has_failed file.new ≡ false) }
+    ensures finished { OnOk result (S.is_finished file.new ≡ true) }
+{
+    let Some(number) = command.outcome else {
+        return Ok(());
+    };
+    let Some(index) = index_of_line(test, outcomes, number) else {
+        return Err(Refused::NoOutcome(number));
+    };
+    match put_order_at(
+        test, image, settings, outcomes, index, command, file, alloc,
+    ) {
+        Ok(()) => Ok(()),
+        Err(refused) => Err(refused),
+    }
+}
+
+/// The index of the outcome that is the final state with this line, from 1.
+fn index_of_line(test: &LitmusTest, outcomes: &Outcomes, number: u32) -> Option<usize>
+    requires { IsWellFormed test.now }
+    ensures found { IfSome result (λ index. (index < length outcomes.now.listed)
+        × (slice_get outcomes.now.listed index ≡ slice_get (told_in test.now outcomes.now.listed) (number - 1))) }
+    ensures none { IfNone result
+        ((number ≡ 0) ⊎ (length (told_in test.now outcomes.now.listed) < number)) }
+{
+    if number == 0 {
+        return None;
+    }
+    index_of_state(test, outcomes, number as usize - 1)
+}
+
+/// The index of the outcome that is the final state with this index among the final states.
+fn index_of_state(test: &LitmusTest, outcomes: &Outcomes, state: usize) -> Option<usize>
+    requires { IsWellFormed test.now }
+    ensures found { IfSome result (λ index. (index < length outcomes.now.listed)
+        × (slice_get outcomes.now.listed index ≡ slice_get (told_in test.now outcomes.now.listed) state)) }
+    ensures none { IfNone result (length (told_in test.now outcomes.now.listed) ≤ state) }
+{
+    let mut left = state;
+    for index in 0..outcomes.count() {
+        if is_state(test, outcomes, index) {
+            if left == 0 {
+                return Some(index);
+            }
+            left -= 1;
+        }
+    }
+    None
+}
+
+/// Whether the outcome with this index is a final state of the test.
+fn is_state(test: &LitmusTest, outcomes: &Outcomes, index: usize) -> bool
+    requires sound { IsWellFormed test.now }
+    requires within { index < length outcomes.now.listed }
+    ensures { (told : Told) → slice_get outcomes.now.listed index ≡ Some told
+        → result ≡ passes test.now told }
+{
+    match outcomes.outcome(index) {
+        Some(outcome) => passes(test, outcome),
+        None => false,
+    }
+}
+
+/// Puts the order of the outcome with this index into the file, as a command wants it.
+fn put_order_at<S: EndFiles>(
+    test: &LitmusTest,
+    image: &Image,
+    settings: &Settings,
+    outcomes: &Outcomes,
+    index: usize,
+    command: &LitmusCommand<'_>,
+    file: &mut S,
+    alloc: Global,
+) -> Result<(), Refused>
+    requires sound { IsWellFormed test.now }
+    requires within { index < length outcomes.now.listed }
+    requires works { S.has_failed file.old ≡ false }
+    requires finished { S.is_finished file.old ≡ true }
+    ensures refused { IfErr result (IsTextRefusal settings.now image.now (order_asked command.now)) }
+    ensures written { OnOk result ((told : Told) → slice_get outcomes.now.listed index ≡ Some told
+        → IsStateWritten settings.now image.now test.now command.now
+        (HasPut S.written S.has_failed file.old file.new) told) }
+    ensures unbroken { OnOk result (S.has_failed file.new ≡ false) }
+    ensures finished { OnOk result (S.is_finished file.new ≡ true) }
+{
+    let order = match outcomes.witness(index, alloc) {
+        Ok(order) => Some(order),
+        Err(AllocError) => return Err(Refused::Memory),
+    };
+    let line = match line_at(test, outcomes, index, alloc) {
+        Ok(line) => Some(line),
+        Err(refused) => return Err(refused),
+    };
+    let Ok(named) = file_of(test, image, alloc) else {
+        return Err(Refused::Memory);
+    };
+    let names = match names_in(named.as_slice(), alloc) {
+        Ok(names) => names,
+        Err(refused) => return Err(refused),
+    };
+    let form = StoryForm {
+        harts: settings.config.harts,
+        all: command.all,
+        names: &names,
+        labels: Labels::none(),
+    };
+    put_order(
+        image,
+        settings,
+        &command.order_asked(),
+        &order,
+        &line,
+        &form,
+        file,
+        alloc,
+    )
+}
+
+/// The line of the outcome with this index, as it stands among the final states.
+fn line_at(
+    test: &LitmusTest,
+    outcomes: &Outcomes,
+    index: usize,
+    alloc: Global,
+) -> Result<Vec<u8>, Refused>
+    requires { index < length outcomes.now.listed }
+    ensures line { IfOk result (λ line. (told : Told) → slice_get outcomes.now.listed index ≡ Some told
+        → line.items ≡ told_line test.now told) }
+    ensures refused { IfErr result (λ why. why ≡ Memory) }
+{
+    let mut line = Vec::new(alloc);
+    let written = match outcomes.outcome(index) {
+        Some(outcome) => write_state(test, outcome, &mut line),
+        None => Ok(()),
+    };
+    match written {
+        Ok(()) => Ok(line),
+        Err(_) => Err(Refused::Memory),
+    }
+}
