@@ -3,7 +3,7 @@
 
 ghost use Rattle.std.specs.Prelude.{◌≡◌, IfOk, IfErr, OnOk, is_some, true, false};
 ghost use Rattle.litmus_tests.specs.WellFormed.{IsWellFormed};
-ghost use Rattle.plain_commands.specs.Litmus.{IsStatesRefusal, IsTextRefusal};
+ghost use Rattle.plain_commands.specs.{Litmus.IsTextRefusal, Outcomes.IsWant};
 ghost use Rattle.plain_commands.specs.StateOrders.{settings_for};
 
 use command_parts::{Refused, put_text};
@@ -47,7 +47,7 @@ pub fn put_image<S: EndFiles>(
     requires sound { IsWellFormed test.now }
     requires works { S.has_failed file.old ≡ false }
     requires finished { S.is_finished file.old ≡ true }
-    ensures refused { IfErr result (IsStatesRefusal command.now) }
+    ensures refused { IfErr result IsWant }
     ensures unwanted { is_some command.now.image ≡ false → file.new ≡ file.old }
     ensures unbroken { OnOk result (S.has_failed file.new ≡ false) }
     ensures finished { OnOk result (S.is_finished file.new ≡ true) }
