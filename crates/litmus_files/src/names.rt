@@ -1,7 +1,7 @@
 //! The names of a file, and the table of symbols that go by them (ELF32, "String Table" and "Symbol Table").
 
 ghost use Rattle.std.specs.Prelude.{◌≡◌, ◌+◌, ◌*◌, ◌≤◌, ◌++◌, length, flat_map, IfOk, OnOk};
-ghost use Rattle.elf_image.specs.Written.{word_bytes};
+ghost use Rattle.elf_image.specs.{Image.ram_start, Written.word_bytes};
 ghost use Rattle.litmus_files.specs.Names.{entries, entry, names_begin, named, section_names, strings, symbol_table};
 
 use byteorder::{ByteOrder, LittleEndian};
@@ -67,7 +67,7 @@ pub(crate) fn symbols_of(locations: &[Location], alloc: Global) -> Result<Vec<u8
 fn push_entries(table: &mut Vec<u8>, locations: &[Location]) -> Result<(), AllocError>
     requires { length locations.now ≤ 64 }
     ensures { OnOk result (table.new.items ≡ table.old.items
-        ++ entries locations.now names_begin 2147483648) }
+        ++ entries locations.now names_begin ram_start) }
 {
     let mut begin = NAMES_BEGIN;
     let mut address = RAM_START;

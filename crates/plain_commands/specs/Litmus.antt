@@ -16,7 +16,7 @@ use Rattle.sim_inputs.specs.declared.line.LitmusCommand.{LitmusCommand}
 use Rattle.sim_inputs.specs.{declared.settings.Settings.Settings}
 use Rattle.command_parts.specs.declared.refused.Refused.{Refused}
 use Rattle.command_parts.specs.declared.refused.Refused.TheVariants as reasons
-use Rattle.plain_commands.specs.StateOrders.{HasWrittenState, IsStateRefusal, settings_for}
+use Rattle.plain_commands.specs.StateOrders.{HasWrittenState, IsStateRefusal, settings_for, state_asked}
 
 -- The test's image, and what is watched of it.
 pub record IsSearched (test : LitmusTest) (image : ProgramImage) (watch : Watch) : Type 0 where
@@ -42,7 +42,7 @@ pub record IsTold (test : LitmusTest) (command : LitmusCommand) (found : Found)
 -- The order of the state that the command names is written, where neither a picture is written nor, before it, the image.
 abbrev pub IsStateTold : Settings → ProgramImage → LitmusTest → LitmusCommand → (List ℕ → Type 0) → List Told → Type 0
 IsStateTold settings image test command Put listed = is_some command.svg ≡ false
-    → HasWrittenState settings image test command Put command.outcome listed
+    → HasWrittenState settings image test command Put (state_asked command) listed
 
 -- All final states are printed: those in which the test's image can end, whatever order its harts take, each
 -- of them an end of some order, and listed once; and every core that runs the image ends in one of them. What is said of

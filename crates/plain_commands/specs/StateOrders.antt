@@ -1,5 +1,5 @@
 -- The order that leads to a final state of a litmus test, as the command `litmus` writes it. (This project's own choice.)
-use Rattle.std.specs.Prelude.{◌≡◌, ◌⊎◌, ℕ, ◌-◌, ◌<◌, List, Option, Some, None, length, slice_get}
+use Rattle.std.specs.Prelude.{◌≡◌, ◌⊎◌, ℕ, ◌-◌, ◌<◌, List, Option, Some, None, if◌then◌else◌, length, slice_get}
 use Rattle.elf_image.specs.Image.{ProgramImage}
 use Rattle.core_state.specs.Setup.{setup_of}
 use Rattle.address_labels.specs.Labels.{no_marks}
@@ -13,7 +13,7 @@ use Rattle.sim_inputs.specs.{declared.settings.Settings.Settings, TestOrders.ord
 use Rattle.sim_inputs.specs.declared.line.LitmusCommand.{LitmusCommand}
 use Rattle.command_parts.specs.declared.refused.Refused.{Refused}
 use Rattle.command_parts.specs.declared.refused.Refused.TheVariants as reasons
-use Rattle.plain_commands.specs.WrittenOrders.{IsTextOf, IsTextRefusal}
+use Rattle.plain_commands.specs.WrittenOrders.{IsTextOf, IsTextRefusal, wants_order}
 
 -- The settings, with as many harts as the test has.
 abbrev pub settings_for : LitmusTest → Settings → Settings
@@ -39,8 +39,11 @@ pub record IsStateWritten (settings : Settings) (image : ProgramImage) (test : L
       (state_plan settings command names) told.order (Some (told_line test told)) text
   pub put : Put text
 
--- So it is of the final state with the number that a command names, from 1, in the order of their lines; where it names
--- none nothing is said.
+-- The number of the final state whose order a command wants, from 1, in the order of their lines.
+abbrev pub state_asked : LitmusCommand → Option ℕ
+state_asked command = if wants_order (order_asked command) then command.outcome else None
+
+-- So it is of the final state with a number; where there is none nothing is said.
 abbrev pub HasWrittenState : Settings → ProgramImage → LitmusTest → LitmusCommand → (List ℕ → Type 0) → Option ℕ
     → List Told → Type 0
 HasWrittenState settings image test command Put None listed = Unit {0}
@@ -49,7 +52,11 @@ HasWrittenState settings image test command Put (Some number) listed = (told : T
     × IsStateWritten settings image test command Put told
 
 -- What is refused of it: there are fewer final states; or it is what is refused of an order's text.
+abbrev pub LacksState : LitmusTest → LitmusCommand → List Told → Refused → Type 0
+LacksState test command listed (reasons.NoOutcome number) =
+    (state_asked command ≡ Some number) × ((number ≡ 0) ⊎ (length (told_in test listed) < number))
+LacksState test command listed _ = ⊥
+
 abbrev pub IsStateRefusal : Settings → ProgramImage → LitmusTest → LitmusCommand → List Told → Refused → Type 0
-IsStateRefusal settings image test command listed (reasons.NoOutcome number) =
-    (command.outcome ≡ Some number) × ((number ≡ 0) ⊎ (length (told_in test listed) < number))
-IsStateRefusal settings image test command listed reason = IsTextRefusal settings image (order_asked command) reason
+IsStateRefusal settings image test command listed why =
+    LacksState test command listed why ⊎ IsTextRefusal settings image (order_asked command) why

@@ -9,7 +9,7 @@ ghost use Rattle.litmus_text.specs.{State.told_line, States.passes, States.told_
 ghost use Rattle.outcomes.specs.{Found.Told};
 ghost use Rattle.sim_inputs.specs.TestOrders.{order_asked};
 ghost use Rattle.command_parts.specs.declared.refused.Refused.TheVariants.{Memory};
-ghost use Rattle.plain_commands.specs.StateOrders.{HasWrittenState, IsStateRefusal, IsStateWritten};
+ghost use Rattle.plain_commands.specs.StateOrders.{HasWrittenState, IsStateRefusal, IsStateWritten, state_asked};
 ghost use Rattle.plain_commands.specs.WrittenOrders.{IsTextRefusal};
 
 use crate::written_orders::put_order;
@@ -44,12 +44,12 @@ pub(crate) fn put_state_order<S: EndFiles>(
     ensures refused { IfErr result
         (IsStateRefusal settings.now image.now test.now command.now outcomes.now.listed) }
     ensures written { OnOk result (HasWrittenState settings.now image.now test.now command.now
-        (HasPut S.written S.has_failed file.old file.new) command.now.outcome outcomes.now.listed) }
-    ensures unwanted { command.now.outcome ≡ None → file.new ≡ file.old }
+        (HasPut S.written S.has_failed file.old file.new) (state_asked command.now) outcomes.now.listed) }
+    ensures unwanted { state_asked command.now ≡ None → file.new ≡ file.old }
     ensures unbroken { OnOk result (S.has_failed file.new ≡ false) }
     ensures finished { OnOk result (S.is_finished file.new ≡ true) }
 {
-    let Some(number) = command.outcome else {
+    let Some(number) = state_asked(command) else {
         return Ok(());
     };
     let Some(index) = index_of_line(test, outcomes, number) else {
@@ -61,6 +61,16 @@ pub(crate) fn put_state_order<S: EndFiles>(
         Ok(()) => Ok(()),
         Err(refused) => Err(refused),
     }
+}
+
+/// The number of the final state whose order a command wants, from 1.
+fn state_asked(command: &LitmusCommand<'_>) -> Option<u32>
+    ensures { result ≡ state_asked command.now }
+{
+    if command.order_asked().written().is_none() {
+        return None;
+    }
+    command.outcome
 }
 
 /// The index of the outcome that is the final state with this line, from 1.

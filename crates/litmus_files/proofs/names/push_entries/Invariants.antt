@@ -1,0 +1,11 @@
+use Rattle.std.proofs.Common.{◌≡◌, ◌+◌, ◌*◌, ◌++◌, drop}
+use Rattle.elf_image.specs.Image.{ram_start}
+use Rattle.litmus_files.specs.Names.{entries, names_begin}
+use Rattle.litmus_files.proofs.names.push_entries.Given as goal
+
+-- the entries so far and those of the locations that are left are those of all
+abbrev pub invariant-loop-location : goal.invariant-loop-location
+invariant-loop-location l =
+    (l.table.items ++ entries (drop l.location-index l.locations) l.begin l.address ≡ l.initial.table.items
+    ++ entries l.locations names_begin ram_start)
+    × (l.address ≡ ram_start + 4 * l.location-index)
