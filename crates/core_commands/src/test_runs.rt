@@ -90,6 +90,7 @@ fn run_test<
     times: u32,
 ) -> Result<u8, Refused>
     requires sound { IsWellFormed test.now }
+    requires harts { settings.now.config.harts ≡ length test.now.threads.items }
     requires works { S.has_failed context.old.files ≡ false }
     requires finished { S.is_finished context.old.files ≡ true }
     ensures refused { IfErr result (IsRunsRefusal settings.now) }
@@ -128,6 +129,7 @@ fn run_test<
 }
 
 /// Makes so many runs of a test's image, and prints to which of these outcomes they come.
+#[inline(never)]
 fn count_runs<
     G: Gate + Sync,
     P: Predict + Copy + Send,
