@@ -449,7 +449,7 @@ const LINES: [(&str, Line<'_>); 21] = [
 ];
 
 /// Of other commands and options.
-const OTHER_LINES: [(&str, Line<'_>); 25] = [
+const OTHER_LINES: [(&str, Line<'_>); 27] = [
     (
         "smtsim list list.elf",
         Line {
@@ -912,6 +912,52 @@ const OTHER_LINES: [(&str, Line<'_>); 25] = [
         },
     ),
     (
+        "smtsim litmus t --outcome 2 --story-svg p --theme dark",
+        Line {
+            config: None,
+            harts: None,
+            hints: HintsWanted::Auto,
+            command: Command::Litmus(LitmusCommand {
+                test: "t",
+                states: 1_000_000,
+                why: false,
+                image: None,
+                svg: None,
+                outcome: Some(2),
+                witness: None,
+                script: None,
+                story: None,
+                story_svg: Some("p"),
+                theme: Some(Theme::Dark),
+                all: false,
+                run: None,
+            }),
+        },
+    ),
+    (
+        "smtsim litmus t --run 9 --image i",
+        Line {
+            config: None,
+            harts: None,
+            hints: HintsWanted::Auto,
+            command: Command::Litmus(LitmusCommand {
+                test: "t",
+                states: 1_000_000,
+                why: false,
+                image: Some("i"),
+                svg: None,
+                outcome: None,
+                witness: None,
+                script: None,
+                story: None,
+                story_svg: None,
+                theme: None,
+                all: false,
+                run: Some(9),
+            }),
+        },
+    ),
+    (
         "smtsim migrate t o",
         Line {
             config: None,
@@ -1005,7 +1051,7 @@ fn numbers_of<'a>(line: &Line<'a>) -> ([Option<u32>; 3], Option<&'a str>) {
             [Some(outcomes.states), outcomes.outcome, None],
             None,
         ),
-        Command::Litmus(litmus) => ([Some(litmus.states), None, None], None),
+        Command::Litmus(litmus) => ([Some(litmus.states), litmus.outcome, litmus.run], None),
         _ => ([None, None, None], None),
     }
 }
@@ -1087,6 +1133,7 @@ fn theme_of(line: &Line<'_>) -> &'static str {
     let theme = match line.command {
         Command::OfProgram(ProgramCommand::Plain(plain)) => plain.theme,
         Command::OfProgram(ProgramCommand::Outcomes(outcomes)) => outcomes.theme,
+        Command::Litmus(litmus) => litmus.order_asked().theme,
         _ => None,
     };
     match theme {
