@@ -22,11 +22,11 @@ pub fn file_of(test: &LitmusTest, image: &Image, alloc: Global) -> Result<Vec<u8
     requires { IsWellFormed test.now }
     ensures { IfOk result (λ file. file.items ≡ test_file test.now image.now) }
 {
-    let image = elf_image::write(alloc, image)?;
+    let plain = elf_image::write(alloc, image)?;
     if test.locations.is_empty() {
-        return Ok(image);
+        return Ok(plain);
     }
-    named_file(image.as_slice(), test.locations.as_slice(), alloc)
+    named_file(plain.as_slice(), test.locations.as_slice(), alloc)
 }
 
 /// The file of an image with the names of these locations.

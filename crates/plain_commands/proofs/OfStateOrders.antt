@@ -8,7 +8,17 @@ use Rattle.outcomes.specs.{Found.Told}
 use Rattle.litmus_tests.specs.declared.test.LitmusTest.{LitmusTest}
 use Rattle.litmus_text.specs.States.{passes, told_in}
 use Rattle.sim_inputs.specs.{declared.settings.Settings.Settings, declared.line.LitmusCommand.LitmusCommand}
-use Rattle.plain_commands.specs.StateOrders.{HasWrittenState, IsStateWritten}
+use Rattle.event_text.specs.Sinking.{HasPut}
+use Rattle.litmus_files.specs.File.{test_file}
+use Rattle.litmus_text.specs.State.{told_line}
+use Rattle.sim_inputs.specs.TestOrders.{order_asked}
+use Rattle.symbols.specs.Tables.{AreNamesOf, Table}
+use Rattle.outcomes.specs.Told.{order_listed}
+use Rattle.std.proofs.lemmas.Option.{same_Some}
+use Rattle.std.proofs.Common.{Result, Ok, Err, OnOk, option_map}
+use Rattle.command_parts.specs.declared.refused.Refused.{Refused}
+use Rattle.plain_commands.specs.StateOrders.{HasWrittenState, IsStateWritten, state_plan}
+use Rattle.plain_commands.specs.WrittenOrders.{HasPutOrder}
 
 -- ---- The turns of the loop that looks for it
 
@@ -85,3 +95,26 @@ pub state_written : (settings : Settings) (image : ProgramImage) (test : LitmusT
 state_written settings image test command Put listed index number found written =
     let one = member listed index found.0 in
     (one.0, sym found.1 ∙ one.1, written one.0 one.1)
+
+-- The order of an outcome, and its line, as they were put.
+module _ {S : Type 0} (written : S → Option (List ℕ)) (has_failed : S → Bool) (old new : S) (settings : Settings)
+    (image : ProgramImage) (test : LitmusTest) (command : LitmusCommand) (listed : List Told) (index : ℕ)
+    (file : List ℕ) (names : Table) (order line : List ℕ) where
+  pub state_put : (answer : Result (Unit {0}) Refused) → file ≡ test_file test image → AreNamesOf file names
+      → order_listed listed index ≡ Some order
+      → ((told : Told) → slice_get listed index ≡ Some told → line ≡ told_line test told)
+      → OnOk answer (HasPutOrder written has_failed old new settings image (order_asked command)
+      (state_plan settings command names) (Some order) (Some line))
+      → OnOk answer ((told : Told) → slice_get listed index ≡ Some told
+      → IsStateWritten settings image test command (HasPut written has_failed old new) told)
+  state_put (Ok done) is_file named ordered lined put = λ told at.
+      let same_order : told.order ≡ order =
+      same_Some _ _ (sym (ap (option_map (λ (t : Told). t.order)) at) ∙ ordered) in
+      record {
+        names = names;
+        named = subst (λ (f : List ℕ). AreNamesOf f names) is_file named;
+        text = put.text;
+        is = rw (same_order, sym (lined told at)) put.is;
+        put = put.put;
+      }
+  state_put (Err why) is_file named ordered lined put = tt

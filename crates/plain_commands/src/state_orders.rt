@@ -2,7 +2,7 @@
 //! that of an outcome. Its story has the test's names, and the state's line behind it.
 
 ghost use Rattle.std.specs.Prelude.{◌≡◌, ◌⊎◌, ◌<◌, ◌≤◌, ◌-◌, IfOk, IfErr, IfSome, IfNone, OnOk, Some, None, true, false};
-ghost use Rattle.std.specs.Prelude.{length, slice_get};
+ghost use Rattle.std.specs.Prelude.{length, option_map, slice_get};
 ghost use Rattle.event_text.specs.Sinking.{HasPut};
 ghost use Rattle.litmus_tests.specs.WellFormed.{IsWellFormed};
 ghost use Rattle.litmus_text.specs.{State.told_line, States.passes, States.told_in};
@@ -10,7 +10,10 @@ ghost use Rattle.outcomes.specs.{Found.Told};
 ghost use Rattle.sim_inputs.specs.TestOrders.{order_asked};
 ghost use Rattle.command_parts.specs.declared.refused.Refused.TheVariants.{Memory};
 ghost use Rattle.plain_commands.specs.StateOrders.{HasWrittenState, IsStateRefusal, IsStateWritten, state_asked};
-ghost use Rattle.plain_commands.specs.WrittenOrders.{IsTextRefusal};
+ghost use Rattle.plain_commands.specs.StateOrders.{state_plan};
+ghost use Rattle.plain_commands.specs.WrittenOrders.{HasPutOrder, IsTextRefusal};
+ghost use Rattle.story_text.specs.Text.{plan_of};
+ghost use Rattle.symbols.specs.Tables.{table_of};
 
 use crate::written_orders::put_order;
 use address_labels::Labels;
@@ -25,6 +28,7 @@ use sim_inputs::{LitmusCommand, Settings};
 use std::alloc::{AllocError, Global};
 use story_text::StoryForm;
 use stress_runs::EndFiles;
+use symbols::Symbols;
 
 /// Puts the order of the final state into the file that a command names by its line, where it names one: as it is, as
 /// its script, as its story or as a picture of that. `outcomes` are those of the test's image, and all of them.
@@ -156,22 +160,51 @@ fn put_order_at<S: EndFiles>(
         Ok(names) => names,
         Err(refused) => return Err(refused),
     };
-    let form = StoryForm {
+    put_named(
+        image, settings, command, &order, &line, &names, file, alloc,
+    )
+}
+
+/// Puts an order into the file, as a command wants it, with these names; `line` stands behind its story.
+fn put_named<S: EndFiles>(
+    image: &Image,
+    settings: &Settings,
+    command: &LitmusCommand<'_>,
+    order: &Option<Vec<u8>>,
+    line: &Option<Vec<u8>>,
+    names: &Symbols<'_>,
+    file: &mut S,
+    alloc: Global,
+) -> Result<(), Refused>
+    requires works { S.has_failed file.old ≡ false }
+    requires finished { S.is_finished file.old ≡ true }
+    ensures refused { IfErr result (IsTextRefusal settings.now image.now (order_asked command.now)) }
+    ensures put { OnOk result (HasPutOrder S.written S.has_failed file.old file.new settings.now image.now
+        (order_asked command.now) (state_plan settings.now command.now (table_of names.now))
+        (option_map (λ it. it.items) order.now) (option_map (λ it. it.items) line.now)) }
+    ensures unbroken { OnOk result (S.has_failed file.new ≡ false) }
+    ensures finished { OnOk result (S.is_finished file.new ≡ true) }
+{
+    let form = form_of(settings, command, names);
+    let asked = command.order_asked();
+    put_order(image, settings, &asked, order, line, &form, file, alloc)
+}
+
+/// How the story of a state's order is told, with these names.
+fn form_of<'a>(
+    settings: &Settings,
+    command: &LitmusCommand<'_>,
+    names: &'a Symbols<'a>,
+) -> StoryForm<'a>
+    ensures plan { plan_of result ≡ state_plan settings.now command.now (table_of names.now) }
+    ensures harts { result.harts ≡ settings.now.config.harts }
+{
+    StoryForm {
         harts: settings.config.harts,
         all: command.all,
-        names: &names,
+        names,
         labels: Labels::none(),
-    };
-    put_order(
-        image,
-        settings,
-        &command.order_asked(),
-        &order,
-        &line,
-        &form,
-        file,
-        alloc,
-    )
+    }
 }
 
 /// The line of the outcome with this index, as it stands among the final states.
