@@ -63,6 +63,10 @@ module _ (test : LitmusTest) (settings : Settings) (image : ProgramImage) (watch
 
 -- ---- What is over
 
+map_push : (f : ℕ → Status) (xs : List ℕ) (x : ℕ) → map f (xs ++ x ∷ []) ≡ map f xs ++ f x ∷ []
+map_push f [] x = refl
+map_push f (y ∷ xs) x = ap (λ (ys : List Status). f y ∷ ys) (map_push f xs x)
+
 -- No hart goes in what is listed.
 none_going : (statuses : ℕ → Status) (n : ℕ) → ((h : ℕ) → h < n → is_going_status (statuses h) ≡ false)
     → list_any is_going_status (map statuses (below n)) ≡ false
@@ -73,10 +77,6 @@ none_going statuses (suc n) none =
     ap (list_any is_going_status) (map_push statuses (below n) n)
     ∙ list_any-append is_going_status (map statuses (below n)) (statuses n ∷ [])
     ∙ rw (before, last) refl
-  where
-    map_push : (f : ℕ → Status) (xs : List ℕ) (x : ℕ) → map f (xs ++ x ∷ []) ≡ map f xs ++ f x ∷ []
-    map_push f [] x = refl
-    map_push f (y ∷ xs) x = ap (λ (ys : List Status). f y ∷ ys) (map_push f xs x)
 
 going_at : (p q : Bool) → p ≡ true → (p && q) ≡ false → q ≡ false
 going_at p q is none = rw is at none
@@ -99,10 +99,6 @@ each_over statuses (suc n) none h less = elim (cases_Bool (is_going_status (stat
   | inr over ↦ over
 ]
   where
-    map_push : (f : ℕ → Status) (xs : List ℕ) (x : ℕ) → map f (xs ++ x ∷ []) ≡ map f xs ++ f x ∷ []
-    map_push f [] x = refl
-    map_push f (y ∷ xs) x = ap (λ (ys : List Status). f y ∷ ys) (map_push f xs x)
-
     or_right : (p q : Bool) → q ≡ true → (p || q) ≡ true
     or_right true q is = refl
     or_right false q is = is
@@ -111,7 +107,13 @@ each_over statuses (suc n) none h less = elim (cases_Bool (is_going_status (stat
     or_left p q is = rw is refl
 
     apart : (h n : ℕ) → h < suc n → (h ≡ n) ⊎ (h < n)
-    apart h n less = omega (arith, less)
+    apart zero zero less = inl refl
+    apart zero (suc n) less = inr (omega arith)
+    apart (suc h) zero less = absurd (omega (arith, less))
+    apart (suc h) (suc n) less = elim (apart h n (omega (arith, less))) [
+      | inl same ↦ inl (ap suc same)
+      | inr below ↦ inr (omega (arith, below))
+    ]
 
     any_below : (statuses : ℕ → Status) (n h : ℕ) → h < n → is_going_status (statuses h) ≡ true
         → list_any is_going_status (map statuses (below n)) ≡ true

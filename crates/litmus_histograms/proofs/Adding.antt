@@ -68,8 +68,8 @@ module _ (e : Ending) (n : ℕ) where
         let other = Any-from_list_any (λ (t : Told). same_end e t.ending) listed some in
         let first : e ≡ told.ending = (end_decides e told.ending).0 same in
         let second : e ≡ other.1.ending = (end_decides e other.1.ending).0 other.4 in
-        let at : told.ending ≡ other.1.ending = sym first ∙ second in
-        absurd (differ told listed apart other.0 other.1 other.2 other.3 at)
+        let alike : told.ending ≡ other.1.ending = sym first ∙ second in
+        absurd (differ told listed apart other.0 other.1 other.2 other.3 alike)
     | inr none ↦ none
   ]
     where

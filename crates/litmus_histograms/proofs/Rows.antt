@@ -95,7 +95,7 @@ no_times e (x ∷ past) new = elim (cases_Bool (same_end x e)) [
 -- ---- All runs
 
 module _ (test : Ending → Bool) where
-  weight : List Ending → Ending → ℕ
+  abbrev weight : List Ending → Ending → ℕ
   weight past x = if test x then times_of past x else 0
 
   weight_more : (e : Ending) (past : List Ending) (x : Ending)
@@ -111,6 +111,12 @@ module _ (test : Ending → Bool) where
         | inl t ↦ rw (other, t) (omega arith)
         | inr f ↦ rw (other, f) refl
       ]
+  ]
+
+  first_weight : (e : Ending) (past : List Ending) → has_come e past ≡ false → weight past e ≡ 0
+  first_weight e past new = elim (cases_Bool (test e)) [
+    | inl t ↦ rw t (no_times e past new)
+    | inr f ↦ rw f refl
   ]
 
   weigh : (past : List Ending) → total (weight past) (ends_of past) ≡ how_many test past
@@ -138,12 +144,6 @@ module _ (test : Ending → Bool) where
             let sum : total (weight (e ∷ past)) (ends_of past ++ e ∷ []) ≡ how_many test (e ∷ past) =
             omega (arith, before, ends, none, first, self, last, push, count) in
             rw new sum
-      ]
-    where
-      first_weight : (e : Ending) (past : List Ending) → has_come e past ≡ false → weight past e ≡ 0
-      first_weight e past new = elim (cases_Bool (test e)) [
-        | inl t ↦ rw t (no_times e past new)
-        | inr f ↦ rw f refl
       ]
 
   -- So do the rows.

@@ -45,8 +45,8 @@ module _ (test : LitmusTest) (listed : List Told) (state i n left : ℕ) (b : Bo
   here : Told
   here = (member listed i within).0
 
-  at : slice_get listed i ≡ Some here
-  at = (member listed i within).1
+  stands : slice_get listed i ≡ Some here
+  stands = (member listed i within).1
 
   first : drop i listed ≡ here ∷ drop (i + 1) listed
   first =
@@ -54,14 +54,14 @@ module _ (test : LitmusTest) (listed : List Told) (state i n left : ℕ) (b : Bo
       (ap (λ (told : Told). told ∷ drop (suc i) listed) ((member listed i within).2 here))
 
   told_from : (answer : Bool) → b ≡ answer → passes test here ≡ answer
-  told_from answer found = sym (asked here at) ∙ found
+  told_from answer found = sym (asked here stands) ∙ found
 
   pub found_here : b ≡ true → left ≡ 0
       → (i < length listed) × (slice_get listed i ≡ slice_get (told_in test listed) state)
   found_here yes none =
       let passed = told_from true yes in
       let last : slice_get (told_in test (drop i listed)) left ≡ Some here = rw (none, first, passed) refl in
-      (within, at ∙ sym (is.same ∙ last))
+      (within, stands ∙ sym (is.same ∙ last))
 
   pub one_less : b ≡ true → (k : ℕ) → left ≡ suc k → IsLeft test listed state (i + 1) k
   one_less yes k more =
@@ -107,14 +107,14 @@ module _ {S : Type 0} (written : S → Option (List ℕ)) (has_failed : S → Bo
       (state_plan settings command names) (Some order) (Some line))
       → OnOk answer ((told : Told) → slice_get listed index ≡ Some told
       → IsStateWritten settings image test command (HasPut written has_failed old new) told)
-  state_put (Ok done) is_file named ordered lined put = λ told at.
+  state_put (Ok done) is_file named ordered lined put = λ told stood.
       let same_order : told.order ≡ order =
-      same_Some _ _ (sym (ap (option_map (λ (t : Told). t.order)) at) ∙ ordered) in
+      same_Some _ _ (sym (ap (option_map (λ (t : Told). t.order)) stood) ∙ ordered) in
       record {
         names = names;
         named = subst (λ (f : List ℕ). AreNamesOf f names) is_file named;
         text = put.text;
-        is = rw (same_order, sym (lined told at)) put.is;
+        is = rw (same_order, sym (lined told stood)) put.is;
         put = put.put;
       }
   state_put (Err why) is_file named ordered lined put = tt
