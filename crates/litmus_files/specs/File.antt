@@ -6,9 +6,14 @@ use Rattle.litmus_files.specs.Names.{strings, symbol_table}
 
 -- The file of an image, whose header says of sections: e_shoff, at 32, that their headers begin behind it; e_shentsize,
 -- e_shnum and e_shstrndx, from 46 on, that they are four of 40 bytes, and that the last has their names.
+unfoldable pub begun : List ℕ → List ℕ
+begun image = take 32 image ++ flat_map word_bytes (length image ∷ [])
+
+unfoldable pub numbered : List ℕ → List ℕ
+numbered image = take 10 (drop 36 image) ++ (40 ∷ 0 ∷ 4 ∷ 0 ∷ 3 ∷ 0 ∷ [])
+
 unfoldable pub spoken_for : List ℕ → List ℕ
-spoken_for image = take 32 image ++ (flat_map word_bytes (length image ∷ []) ++ (take 10 (drop 36 image)
-    ++ ((40 ∷ 0 ∷ 4 ∷ 0 ∷ 3 ∷ 0 ∷ []) ++ drop 52 image)))
+spoken_for image = begun image ++ (numbered image ++ drop 52 image)
 
 -- The header of a section: sh_name, sh_type, sh_flags, sh_addr, sh_offset, sh_size, sh_link, sh_info, sh_addralign and
 -- sh_entsize. Of the words of so many locations (SHT_PROGBITS; SHF_WRITE and SHF_ALLOC), which lie behind the header of
@@ -29,10 +34,16 @@ section_headers image locations strings = replicate 40 0 ++ (located locations
     ++ (symbols_located (image + 4 * 40) (16 * (locations + 1))
     ++ strings_located (image + 4 * 40 + 16 * (locations + 1)) strings))
 
--- The file of an image with these locations. Where there are none it is the image's, with no sections.
+-- The file of an image with a table of symbols, of so many locations, and names. Where there are no locations it is the
+-- image's, with no sections.
+unfoldable pub fronted : List ℕ → ℕ → ℕ → List ℕ
+fronted image locations names = spoken_for image ++ section_headers (length image) locations names
+
+abbrev pub joined : List ℕ → ℕ → List ℕ → List ℕ → List ℕ
+joined image locations symbols names = fronted image locations (length names) ++ (symbols ++ names)
+
 abbrev pub named_file : List Location → List ℕ → List ℕ
-named_file locations image = spoken_for image ++ (section_headers (length image) (length locations)
-    (length (strings locations)) ++ (symbol_table locations ++ strings locations))
+named_file locations image = joined image (length locations) (symbol_table locations) (strings locations)
 
 abbrev pub file_with : List Location → List ℕ → List ℕ
 file_with [] image = image

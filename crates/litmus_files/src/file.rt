@@ -1,8 +1,8 @@
 //! The whole file.
 
-ghost use Rattle.std.specs.Prelude.{◌≡◌, ◌≤◌, length, IfOk};
+ghost use Rattle.std.specs.Prelude.{◌≡◌, ◌≤◌, ◌++◌, length, IfOk, OnOk};
 ghost use Rattle.litmus_tests.specs.WellFormed.{IsWellFormed};
-ghost use Rattle.litmus_files.specs.File.{file_with, named_file, test_file};
+ghost use Rattle.litmus_files.specs.File.{file_with, fronted, joined, named_file, test_file};
 
 use crate::names::{strings_of, symbols_of};
 use crate::sections::{Lengths, push_image, push_sections};
@@ -23,10 +23,22 @@ pub fn file_of(test: &LitmusTest, image: &Image, alloc: Global) -> Result<Vec<u8
     ensures { IfOk result (λ file. file.items ≡ test_file test.now image.now) }
 {
     let plain = elf_image::write(alloc, image)?;
-    if test.locations.is_empty() {
+    file_with(plain, test.locations.as_slice(), alloc)
+}
+
+/// The file of an image with the names of these locations, if there are some.
+fn file_with(
+    plain: Vec<u8>,
+    locations: &[Location],
+    alloc: Global,
+) -> Result<Vec<u8>, AllocError>
+    requires { length locations.now ≤ 64 }
+    ensures { IfOk result (λ file. file.items ≡ file_with locations.now plain.items) }
+{
+    if locations.is_empty() {
         return Ok(plain);
     }
-    named_file(plain.as_slice(), test.locations.as_slice(), alloc)
+    named_file(plain.as_slice(), locations, alloc)
 }
 
 /// The file of an image with the names of these locations.
@@ -40,20 +52,64 @@ fn named_file(
 {
     let strings = strings_of(locations, alloc)?;
     let symbols = symbols_of(locations, alloc)?;
+    joined(
+        image,
+        locations.len(),
+        symbols.as_slice(),
+        strings.as_slice(),
+        alloc,
+    )
+}
+
+/// The file of an image with this table of symbols, of so many locations, and these names.
+fn joined(
+    image: &[u8],
+    locations: usize,
+    symbols: &[u8],
+    strings: &[u8],
+    alloc: Global,
+) -> Result<Vec<u8>, AllocError>
+    requires { locations ≤ 64 }
+    ensures { IfOk result (λ file. file.items ≡ joined image.now locations symbols.now strings.now) }
+{
     if image.len() < HEADER || image.len() > MOST_BYTES || strings.len() > MOST_BYTES {
         return Err(AllocError);
     }
     let mut file = Vec::new(alloc);
-    push_image(&mut file, image)?;
+    push_front(&mut file, image, locations as u32, strings.len() as u32)?;
+    push_back(&mut file, symbols, strings)?;
+    Ok(file)
+}
+
+/// Appends the file of an image, and the headers of its sections, for so many locations and names of so many bytes.
+#[tactic(auto, unfolding(crate::specs::File::fronted))]
+fn push_front(
+    file: &mut Vec<u8>,
+    image: &[u8],
+    locations: u32,
+    strings: u32,
+) -> Result<(), AllocError>
+    requires header { 52 ≤ length image.now }
+    requires few { length image.now ≤ 16777216 }
+    requires locations { locations ≤ 64 }
+    ensures { OnOk result (file.new.items ≡ file.old.items ++ fronted image.now locations strings) }
+{
+    push_image(file, image)?;
     push_sections(
-        &mut file,
+        file,
         Lengths {
             image: image.len() as u32,
-            locations: locations.len() as u32,
-            strings: strings.len() as u32,
+            locations,
+            strings,
         },
-    )?;
-    file.extend_from_slice(symbols.as_slice())?;
-    file.extend_from_slice(strings.as_slice())?;
-    Ok(file)
+    )
+}
+
+/// Appends the table of symbols, and the names.
+fn push_back(file: &mut Vec<u8>, symbols: &[u8], strings: &[u8]) -> Result<(), AllocError>
+    ensures { OnOk result (file.new.items ≡ file.old.items ++ (symbols.now ++ strings.now)) }
+{
+    file.extend_from_slice(symbols)?;
+    file.extend_from_slice(strings)?;
+    Ok(())
 }

@@ -1,7 +1,8 @@
 //! Where the parts of a file lie that aren't loaded (ELF32, "Sections").
 
-ghost use Rattle.std.specs.Prelude.{◌≡◌, ◌≤◌, ◌<◌, ◌+◌, ◌++◌, ◌^◌, length, take, drop, OnOk};
-ghost use Rattle.litmus_files.specs.File.{located, section_headers, spoken_for, strings_located, symbols_located};
+ghost use Rattle.std.specs.Prelude.{◌≡◌, ◌≤◌, ◌++◌, length, take, OnOk};
+ghost use Rattle.litmus_files.specs.File.{begun, located, numbered, section_headers, spoken_for, strings_located};
+ghost use Rattle.litmus_files.specs.File.{symbols_located};
 
 use crate::names::push_words;
 use elf_image::RAM_START;
@@ -77,9 +78,37 @@ pub(crate) fn push_image(file: &mut Vec<u8>, image: &[u8]) -> Result<(), AllocEr
     requires few { length image.now ≤ 16777216 }
     ensures { OnOk result (file.new.items ≡ file.old.items ++ spoken_for image.now) }
 {
-    file.extend_from_slice(&image[..32])?;
-    push_words(file, &[image.len() as u32])?;
+    push_begun(file, image)?;
+    push_numbered(file, image)?;
+    file.extend_from_slice(&image[52..])?;
+    Ok(())
+}
+
+/// Appends the header up to where the headers of the sections lie: behind the file.
+#[tactic(auto, unfolding(crate::specs::File::begun))]
+fn push_begun(file: &mut Vec<u8>, image: &[u8]) -> Result<(), AllocError>
+    requires header { 52 ≤ length image.now }
+    requires few { length image.now ≤ 16777216 }
+    ensures { OnOk result (file.new.items ≡ file.old.items ++ begun image.now) }
+{
+    file.extend_from_slice(first_part(image))?;
+    push_words(file, &[image.len() as u32])
+}
+
+fn first_part(image: &[u8]) -> &[u8]
+    requires { 52 ≤ length image.now }
+    ensures { result.now ≡ take 32 image.now }
+{
+    &image[..32]
+}
+
+/// Appends the rest of the header, with how many sections there are.
+#[tactic(auto, unfolding(crate::specs::File::numbered))]
+fn push_numbered(file: &mut Vec<u8>, image: &[u8]) -> Result<(), AllocError>
+    requires { 52 ≤ length image.now }
+    ensures { OnOk result (file.new.items ≡ file.old.items ++ numbered image.now) }
+{
     file.extend_from_slice(&image[36..46])?;
     file.extend_from_slice(&[40, 0, 4, 0, 3, 0])?;
-    file.extend_from_slice(&image[52..])
+    Ok(())
 }

@@ -5,7 +5,7 @@ use Rattle.litmus_files.proofs.names.push_entries.Goals as goal
 pub loop-location-preserved : goal.loop-location-preserved
 loop-location-preserved c =
     let more = entries_with c.args.locations.now c.loop-location.location-index c.loop-location.begin
-    c.loop-location.address c.loop-location-item.result c.loop-location-test.true c.loop-location-item.is in
+    c.loop-location.address c.location-item.result c.loop-location-test.true c.location-item.is in
     grind (arith, common_steps, more)
 
 pub returns : goal.returns
