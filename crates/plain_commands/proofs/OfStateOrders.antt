@@ -118,3 +118,15 @@ module _ {S : Type 0} (written : S → Option (List ℕ)) (has_failed : S → Bo
         put = put.put;
       }
   state_put (Err why) is_file named ordered lined put = tt
+
+-- Where no order is wanted nothing is said, and where one is it was written.
+pub none_written : (settings : Settings) (image : ProgramImage) (test : LitmusTest) (command : LitmusCommand)
+    (Put : List ℕ → Type 0) (listed : List Told) (asked : Option ℕ) → asked ≡ None
+    → HasWrittenState settings image test command Put asked listed
+none_written settings image test command Put listed asked none = rw none tt
+
+pub one_written : (settings : Settings) (image : ProgramImage) (test : LitmusTest) (command : LitmusCommand)
+    (Put : List ℕ → Type 0) (listed : List Told) (asked : Option ℕ) (number : ℕ) → asked ≡ Some number
+    → HasWrittenState settings image test command Put (Some number) listed
+    → HasWrittenState settings image test command Put asked listed
+one_written settings image test command Put listed asked number is written = rw is written

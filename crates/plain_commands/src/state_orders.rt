@@ -100,12 +100,13 @@ fn index_of_state(test: &LitmusTest, outcomes: &Outcomes, state: usize) -> Optio
 {
     let mut left = state;
     for index in 0..outcomes.count() {
-        if is_state(test, outcomes, index) {
-            if left == 0 {
-                return Some(index);
-            }
-            left -= 1;
+        if !is_state(test, outcomes, index) {
+            continue;
         }
+        if left == 0 {
+            return Some(index);
+        }
+        left -= 1;
     }
     None
 }
