@@ -20,10 +20,13 @@ use Rattle.litmus_tests.specs.{declared.test.LitmusTest.LitmusTest}
 use Rattle.litmus_histograms.specs.{Kinds.is_over, Counting.in_rows, Counting.in_runs, Text.histogram_text, Sums.AddsUp}
 use Rattle.litmus_histograms.proofs.{Rows.few_rows, Rows.rows_count, Adding.add_up}
 use Rattle.sim_inputs.specs.{declared.settings.Settings.Settings, declared.line.LitmusCommand.LitmusCommand}
+use Rattle.outcomes.specs.{Refusals.IsBeyond}
+use Rattle.outcome_text.specs.Listing.{incomplete_text}
 use Rattle.command_parts.specs.declared.refused.Refused.{Refused}
-use Rattle.plain_commands.specs.{Litmus.IsSearched}
+use Rattle.command_parts.specs.declared.refused.Refused.TheVariants as reasons
+use Rattle.plain_commands.specs.{Litmus.IsSearched, Outcomes.IsWant}
 use Rattle.core_commands.specs.{Stress.HasTallied, Stress.IsOneRun, Stress.runs_of}
-use Rattle.core_commands.specs.TestRuns.{HasCounted, PrintsHistogram, RunsComeTo, histogram_status}
+use Rattle.core_commands.specs.TestRuns.{HasCounted, IsRunsRefusal, PrintsHistogram, RunsComeTo, histogram_status}
 
 -- ---- The rows of a tally, and its runs
 
@@ -174,3 +177,34 @@ module _ (test : LitmusTest) (settings : Settings) (image : ProgramImage) (watch
         (listed_over (setup_of image settings.config) watch found (all (setup_of image settings.config) refl harts))
         (map (end_of watch) counted.cores) (all_listed counted.cores counted.are);
   }
+
+-- ---- What it comes to, and what is refused
+
+module _ (test : LitmusTest) (settings : Settings) (command : LitmusCommand) (image : ProgramImage) (watch : Watch) where
+  pub all_counted : (found : Found) (times : ℕ) → settings.config.harts ≡ length test.threads.items
+      → IsSearched test image watch
+      → InEachSetup image (length test.threads.items) (λ setup. IsExactList setup watch found)
+      → InEachSetup image (length test.threads.items) (λ setup. CoversCores setup watch found) → IsOnce found
+      → (old new : Option (List ℕ)) (answer : Result ℕ Refused)
+      → IfOk answer (HasCounted test settings image watch found.listed (runs_of times) old new)
+      → IfOk answer (RunsComeTo test settings command times old new)
+  all_counted found times harts searched all covers once old new (Ok status) counted = inl
+      (histogram_told test settings image watch found harts covers times old new searched all once status counted)
+  all_counted found times harts searched all covers once old new (Err why) counted = tt
+
+  pub more_counted : (harts : ℕ) → harts ≡ length test.threads.items → IsSearched test image watch → (times : ℕ)
+      (old new : Option (List ℕ)) → IsBeyond image harts command.states
+      → Appends old new (incomplete_text command.states) → RunsComeTo test settings command times old new 3
+  more_counted harts count searched times old new beyond printed = inr (record {
+    image = image;
+    watch = watch;
+    searched = searched;
+    beyond = subst (λ n. IsBeyond image n command.states) count beyond;
+    printed = printed;
+    three = refl;
+  })
+
+pub want_refused : (settings : Settings) (why : Refused) → IsWant why → IsRunsRefusal settings why
+want_refused settings reasons.Memory is = tt
+want_refused settings reasons.Output is = tt
+want_refused settings _ is = absurd is

@@ -1,0 +1,34 @@
+-- The states are all, or there are more than were to be looked at.
+use Rattle.std.proofs.Common.{inl, inr, sym, subst, ◌∙◌}
+use Rattle.plain_commands.proofs.OfLitmus.{beyond_of, not_both, of_harts}
+use Rattle.core_commands.proofs.OfTestRuns.{all_counted, more_counted, want_refused}
+use Rattle.core_commands.proofs.test_runs.run_test.Goals as goal
+
+pub returns-in-Err-clause-refused : goal.returns-in-Err-clause-refused
+returns-in-Err-clause-refused g c =
+    want_refused c.args.settings.now c.in-Err.refused c.in-Err.ensures.refused
+
+pub returns-in-Whole-clause-ended : goal.returns-in-Whole-clause-ended
+returns-in-Whole-clause-ended g c =
+    let watched = c.watch_of-watch.ensures in
+    let found = c.in-Ok-find_shown.ensures in
+    let whole = sym c.extent.ensures ∙ c.in-Whole.is in
+    all_counted c.args.test.now c.args.settings.now c.args.command.now c.in-Ok.image c.watch_of-watch.result
+    c.in-Ok-find_shown.outcomes c.args.times c.requires.harts
+    (record { is_image = c.in-Ok.ensures; registers = watched.registers; words = watched.words })
+    (of_harts _ _ _ _ c.harts_of-harts.ensures (found.found.all whole))
+    (of_harts _ _ _ _ c.harts_of-harts.ensures (found.found.cores whole)) found.once
+    (g.W.Write.contents c.args.context.now.out) (g.W.Write.contents c.count_runs.new.context.out) c.count_runs.result
+    c.count_runs.ensures.counted
+
+pub returns-in-Ok-write_incomplete-clause-ended : goal.returns-in-Ok-write_incomplete-clause-ended
+returns-in-Ok-write_incomplete-clause-ended g c =
+    let watched = c.watch_of-watch.ensures in
+    let found = c.in-Ok-find_shown.ensures in
+    let beyond = beyond_of c.in-Ok-find_shown.outcomes c.extent.result c.extent.ensures
+    (λ first. (found.asked first).2) c.in-Beyond.is in
+    more_counted c.args.test.now c.args.settings.now c.args.command.now c.in-Ok.image c.watch_of-watch.result
+    c.harts_of-harts.result c.harts_of-harts.ensures
+    (record { is_image = c.in-Ok.ensures; registers = watched.registers; words = watched.words }) c.args.times
+    (g.W.Write.contents c.args.context.now.out) (g.W.Write.contents c.write_incomplete.new.out)
+    (found.found.beyond beyond) c.in-Ok-write_incomplete.ensures
