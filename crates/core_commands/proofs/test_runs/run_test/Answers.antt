@@ -1,8 +1,18 @@
 -- The states are all, or there are more than were to be looked at.
-use Rattle.std.proofs.Common.{inl, inr, sym, subst, ◌∙◌}
-use Rattle.plain_commands.proofs.OfLitmus.{beyond_of, not_both, of_harts}
+use Rattle.std.proofs.Common.{ℕ, sym, subst, ◌∙◌}
+use Rattle.watched_outcomes.specs.Watching.{AreThere}
+use Rattle.plain_commands.proofs.OfLitmus.{beyond_of, of_harts}
 use Rattle.core_commands.proofs.OfTestRuns.{all_counted, more_counted, want_refused}
 use Rattle.core_commands.proofs.test_runs.run_test.Goals as goal
+
+pub count_runs-requires-clause-there : goal.count_runs-requires-clause-there
+count_runs-requires-clause-there g c =
+    let there = c.in-Ok-find_shown.ensures.present in
+    record {
+      registers = subst (λ (n : ℕ). AreThere n c.watch_of-watch.result) (c.harts_of-harts.ensures ∙ sym c.requires.harts)
+          there.0;
+      words = there.1;
+    }
 
 pub returns-in-Err-clause-refused : goal.returns-in-Err-clause-refused
 returns-in-Err-clause-refused g c =
