@@ -26,9 +26,9 @@ no_file None text settings litmus (inl is) = is
 no_file None text settings litmus (inr is) = elim is.2 [
   | inl states ↦ states
   | inr order ↦ elim order.holds [
-      | inl lacks ↦ lacks
-      | inr written ↦ neither written
-    ]
+    | inl lacks ↦ lacks
+    | inr written ↦ neither written
+  ]
 ]
 no_file (Some times) text settings litmus (inl is) = is
 no_file (Some times) text settings litmus (inr is) = is.2

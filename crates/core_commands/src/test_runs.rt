@@ -112,13 +112,21 @@ fn run_test<
     }
     let watch = watch_of(test);
     let harts = harts_of(test);
-    match find_shown(&image, harts, &watch, command.states, context.gate, &(), alloc) {
+    match find_shown(
+        &image,
+        harts,
+        &watch,
+        command.states,
+        context.gate,
+        &(),
+        alloc,
+    ) {
         Ok(outcomes) => match outcomes.extent() {
-            Extent::Whole => count_runs(
-                context, test, &image, settings, &watch, &outcomes, times,
-            ),
-            Extent::Beyond | Extent::First => match write_incomplete(command.states, &mut context.out)
-            {
+            Extent::Whole => count_runs(context, test, &image, settings, &watch, &outcomes, times),
+            Extent::Beyond | Extent::First => match write_incomplete(
+                command.states,
+                &mut context.out,
+            ) {
                 Ok(()) => Ok(3),
                 Err(_) => Err(Refused::Output),
             },

@@ -27,11 +27,7 @@ pub fn file_of(test: &LitmusTest, image: &Image, alloc: Global) -> Result<Vec<u8
 }
 
 /// The file of an image with the names of these locations, if there are some.
-fn file_with(
-    plain: Vec<u8>,
-    locations: &[Location],
-    alloc: Global,
-) -> Result<Vec<u8>, AllocError>
+fn file_with(plain: Vec<u8>, locations: &[Location], alloc: Global) -> Result<Vec<u8>, AllocError>
     requires { length locations.now ≤ 64 }
     ensures { IfOk result (λ file. file.items ≡ file_with locations.now plain.items) }
 {
@@ -42,11 +38,7 @@ fn file_with(
 }
 
 /// The file of an image with the names of these locations.
-fn named_file(
-    image: &[u8],
-    locations: &[Location],
-    alloc: Global,
-) -> Result<Vec<u8>, AllocError>
+fn named_file(image: &[u8], locations: &[Location], alloc: Global) -> Result<Vec<u8>, AllocError>
     requires { length locations.now ≤ 64 }
     ensures { IfOk result (λ file. file.items ≡ named_file locations.now image.now) }
 {

@@ -51,7 +51,10 @@ fn push_locations(file: &mut Vec<u8>, count: u32) -> Result<(), AllocError>
     requires { count ≤ 64 }
     ensures { OnOk result (file.new.items ≡ file.old.items ++ located count) }
 {
-    push_words(file, &[1, 1, 3, RAM_START, LOCATIONS_BEGIN, 4 * count, 0, 0, 4, 0])
+    push_words(
+        file,
+        &[1, 1, 3, RAM_START, LOCATIONS_BEGIN, 4 * count, 0, 0, 4, 0],
+    )
 }
 
 /// Appends the header of the table of symbols. The first that all parts of the program know is its second.

@@ -105,9 +105,9 @@ module _ (test : LitmusTest) (listed : List Told) (once : AllPairs (λ (a b : To
   hits e n there = elim (cases_Bool (is_over e)) [
     | inl ended ↦ rw ended (one_hit e n listed once (there ended))
     | inr going ↦ elim (cases_Bool (is_listed e)) [
-        | inl found ↦ absurd (false≢true (sym going ∙ over_listed e found))
-        | inr none ↦ rw going (no_hit e n listed none)
-      ]
+      | inl found ↦ absurd (false≢true (sym going ∙ over_listed e found))
+      | inr none ↦ rw going (no_hit e n listed none)
+    ]
   ]
 
   line_more : (e : Ending) (ends : List Ending) (told : Told)
@@ -123,9 +123,9 @@ module _ (test : LitmusTest) (listed : List Told) (once : AllPairs (λ (a b : To
               | inr fails ↦ rw (same, is, fails) refl
             ]
         | inr other ↦ elim (cases_Bool (is_passed test told.ending)) [
-            | inl passed ↦ rw (other, passed) (omega arith)
-            | inr fails ↦ rw (other, fails) refl
-          ]
+          | inl passed ↦ rw (other, passed) (omega arith)
+          | inr fails ↦ rw (other, fails) refl
+        ]
       ]
 
   none_counted : (told : Told) → line_count test [] told ≡ 0

@@ -54,31 +54,31 @@ module _ (e : Ending) (n : ℕ) where
       → total (hit e n) (ends_of (f ∷ past)) ≡ (if has_come e (f ∷ past) then n else 0)
   one_more f past before = elim (cases_Bool (has_come f past)) [
     | inl come ↦ elim (cases_Bool (same_end f e)) [
-        | inl same ↦
-            let there : has_come e past ≡ true = sym (come_same e f past same) ∙ come in
-            rw (come, same) (before ∙ ap (λ b. if b then n else 0) there)
-        | inr other ↦ rw (come, other) before
-      ]
+      | inl same ↦
+          let there : has_come e past ≡ true = sym (come_same e f past same) ∙ come in
+          rw (come, same) (before ∙ ap (λ b. if b then n else 0) there)
+      | inr other ↦ rw (come, other) before
+    ]
     | inr new ↦ elim (cases_Bool (same_end f e)) [
-        | inl same ↦
-            let absent : has_come e past ≡ false = sym (come_same e f past same) ∙ new in
-            let turned : same_end e f ≡ true = (end_decides e f).1 (sym ((end_decides f e).0 same)) in
-            let none : total (hit e n) (ends_of past) ≡ 0 = before ∙ ap (λ b. if b then n else 0) absent in
-            let last : hit e n f ≡ n = ap (λ b. if b then n else 0) turned in
+      | inl same ↦
+          let absent : has_come e past ≡ false = sym (come_same e f past same) ∙ new in
+          let turned : same_end e f ≡ true = (end_decides e f).1 (sym ((end_decides f e).0 same)) in
+          let none : total (hit e n) (ends_of past) ≡ 0 = before ∙ ap (λ b. if b then n else 0) absent in
+          let last : hit e n f ≡ n = ap (λ b. if b then n else 0) turned in
+          let all = total_push (hit e n) (ends_of past) f in
+          rw (new, same) (omega (arith, none, last, all))
+      | inr other ↦ elim (cases_Bool (same_end e f)) [
+        | inl turned ↦
+            let same : same_end f e ≡ true = (end_decides f e).1 (sym ((end_decides e f).0 turned)) in
+            absurd (false≢true (sym other ∙ same))
+        | inr turned ↦
+            let last : hit e n f ≡ 0 = ap (λ b. if b then n else 0) turned in
             let all = total_push (hit e n) (ends_of past) f in
-            rw (new, same) (omega (arith, none, last, all))
-        | inr other ↦ elim (cases_Bool (same_end e f)) [
-            | inl turned ↦
-                let same : same_end f e ≡ true = (end_decides f e).1 (sym ((end_decides e f).0 turned)) in
-                absurd (false≢true (sym other ∙ same))
-            | inr turned ↦
-                let last : hit e n f ≡ 0 = ap (λ b. if b then n else 0) turned in
-                let all = total_push (hit e n) (ends_of past) f in
-                let same : total (hit e n) (ends_of past ++ f ∷ []) ≡ total (hit e n) (ends_of past) =
-                omega (arith, last, all) in
-                rw (new, other) (same ∙ before)
-          ]
+            let same : total (hit e n) (ends_of past ++ f ∷ []) ≡ total (hit e n) (ends_of past) =
+            omega (arith, last, all) in
+            rw (new, other) (same ∙ before)
       ]
+    ]
   ]
 
   hits : (past : List Ending) → total (hit e n) (ends_of past) ≡ (if has_come e past then n else 0)
@@ -108,9 +108,9 @@ module _ (test : Ending → Bool) where
           | inr f ↦ rw (same, is, f) refl
         ]
     | inr other ↦ elim (cases_Bool (test x)) [
-        | inl t ↦ rw (other, t) (omega arith)
-        | inr f ↦ rw (other, f) refl
-      ]
+      | inl t ↦ rw (other, t) (omega arith)
+      | inr f ↦ rw (other, f) refl
+    ]
   ]
 
   first_weight : (e : Ending) (past : List Ending) → has_come e past ≡ false → weight past e ≡ 0

@@ -191,7 +191,11 @@ fn often(held: u64, other: u64) -> &'static str
     if held == 0 {
         return " Never ";
     }
-    if other == 0 { " Always " } else { " Sometimes " }
+    if other == 0 {
+        " Always "
+    } else {
+        " Sometimes "
+    }
 }
 
 /// Writes how many runs the filter leaves out, and how many haven't ended, where there are some.

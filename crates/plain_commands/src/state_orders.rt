@@ -59,9 +59,7 @@ pub(crate) fn put_state_order<S: EndFiles>(
     let Some(index) = index_of_line(test, outcomes, number) else {
         return Err(Refused::NoOutcome(number));
     };
-    match put_order_at(
-        test, image, settings, outcomes, index, command, file, alloc,
-    ) {
+    match put_order_at(test, image, settings, outcomes, index, command, file, alloc) {
         Ok(()) => Ok(()),
         Err(refused) => Err(refused),
     }
@@ -161,9 +159,7 @@ fn put_order_at<S: EndFiles>(
         Ok(names) => names,
         Err(refused) => return Err(refused),
     };
-    put_named(
-        image, settings, command, &order, &line, &names, file, alloc,
-    )
+    put_named(image, settings, command, &order, &line, &names, file, alloc)
 }
 
 /// Puts an order into the file, as a command wants it, with these names; `line` stands behind its story.

@@ -149,7 +149,11 @@ fn refused_of_outcomes(found: &ArgMatches<'_>) -> Option<RefusedOptions> {
 /// Two files of a test, what is asked of its states beside runs of the core, and what `outcomes` refuses of an order.
 fn refused_of_tests(found: &ArgMatches<'_>) -> Option<RefusedOptions> {
     let (run, why) = (has(found, "run"), has(found, "why"));
-    let (image, svg, outcome) = (has(found, "image"), has(found, "svg"), has(found, "outcome"));
+    let (image, svg, outcome) = (
+        has(found, "image"),
+        has(found, "svg"),
+        has(found, "outcome"),
+    );
     let words = match (run, why, image, svg, outcome) {
         (true, true, _, _, _) => "--run --why",
         (true, false, _, true, _) => "--run --svg",

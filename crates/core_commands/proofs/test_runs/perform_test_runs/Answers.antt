@@ -16,7 +16,7 @@ returns-in-Err-run_test-clause-refused g c = inr (
   c.in-Ok.test,
   c.in-Ok.ensures.sound,
   subst (λ (s : Settings). IsRunsRefusal s c.in-Err-run_test.refused) c.settings_for-settings.ensures
-  c.in-Err-run_test.ensures.refused,
+      c.in-Err-run_test.ensures.refused,
 )
 
 pub returns-in-Err-run_test-clause-unwanted : goal.returns-in-Err-run_test-clause-unwanted

@@ -13,7 +13,7 @@ returns-in-Err-perform_test-clause-refused g c = inr (
   c.in-Ok.test,
   c.in-Ok.ensures.sound,
   subst (λ (s : Settings). IsTestRefusal c.in-Ok.test s c.args.command.now c.in-Err-perform_test.refused)
-  c.settings_for-settings.ensures c.in-Err-perform_test.ensures.refused,
+      c.settings_for-settings.ensures c.in-Err-perform_test.ensures.refused,
 )
 
 pub returns-in-Ok-perform_test-clause-ended : goal.returns-in-Ok-perform_test-clause-ended
