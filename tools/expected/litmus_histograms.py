@@ -6,18 +6,21 @@
 Which counts come is up to the threads. What is certain: each line is one of the states that a second machine finds
 (litmus.py), once and in their order, with a star where the condition holds of it by a second evaluator; no count is 0;
 with the runs that the filter leaves out and those that haven't ended the counts are COUNT together; and all that is said
-of the runs is what follows from these counts. Prints how many tests agree, and ends with status 1 where one doesn't.
+of the runs is what follows from these counts. A run has 20,000 events at the most, since a hart may wait for ever. Prints
+how many tests agree, and ends with status 1 where one doesn't.
 """
 
 import glob
 import re
 import subprocess
 import sys
+import tempfile
 
 import litmus
 import litmus_reading
 from litmus_machine import final_states
 
+CONFIGURATION = b"limit = 20000\n"
 BAR = re.compile(r"(\d+) *([*:])>(.*)")
 
 
@@ -67,7 +70,11 @@ def number_behind(lines, what):
 def see_test(program, file, runs):
     with open(file, encoding="latin-1") as text:
         test = litmus_reading.read(text.read())
-    done = subprocess.run([program, "litmus", file, "--run", str(runs)], capture_output=True, check=False)
+    with tempfile.NamedTemporaryFile() as config:
+        config.write(CONFIGURATION)
+        config.flush()
+        words = [program, "litmus", file, "--run", str(runs), "--config", config.name]
+        done = subprocess.run(words, capture_output=True, check=False)
     said = done.stdout.decode("latin-1").splitlines()
     see(not done.stderr, done.stderr.decode())
     all_states = [
