@@ -102,7 +102,8 @@ some_part p (word ∷ words) = part_more word (parted_by p words) (p word.token)
 pub bar_column : (word : Word) (words : List Word) → word.token ≡ mark_token mark.Bar
     → length (parted_by is_bar (word ∷ words)) ≡ length (parted_by is_bar words) + 1
 bar_column word words is =
-    let plus : length (([] {A = Word}) ∷ parted_by is_bar words) ≡ length (parted_by is_bar words) + 1 = omega arith in
+    let none : List Word = [] in
+    let plus : length (none ∷ parted_by is_bar words) ≡ length (parted_by is_bar words) + 1 = omega arith in
     ap (λ (b : Bool). length (if b then [] ∷ parted_by is_bar words else onto_first word (parted_by is_bar words)))
     (ap is_bar is) ∙ plus
 
@@ -127,7 +128,10 @@ columns_more row i columns n total d inside parts so_far =
     ap (λ (t : List Word). length (parted_by is_bar t)) (drop_here row i d inside) ∙ parts (drop (i + 1) row) in
     omega (arith, here, so_far)
 
-past_all : (n : ℕ) → slice_index_or (([] {A = Word}) ∷ []) n [] ≡ []
+abbrev no_words : List Word
+no_words = []
+
+past_all : (n : ℕ) → slice_index_or ([] ∷ []) n no_words ≡ []
 past_all zero = refl
 past_all (suc n) = refl
 

@@ -21,6 +21,11 @@ use Rattle.litmus_reading.specs.Starts.{AddedTaken, AreEntries, ContentsTaken, C
 use Rattle.litmus_reading.specs.Starts.{entries_none, entries_last, entries_more, placed, SpellsFilled, SpellsArray, SpellsElements}
 use Rattle.litmus_reading.specs.Starts.{start_in, initial_in, start_at, starts_from}
 
+-- an entry that none is, in the same entries
+pub none_of_same : (looked : List Entry → Option Value) (items slice : List Entry) (before : Option Value)
+    → slice ≡ items → before ≡ looked slice → before ≡ None → looked items ≡ None
+none_of_same looked items slice before same is none = ap looked (sym same) ∙ sym is ∙ none
+
 pub takes_nothing : (words : List Word) → Takes words [] words
 takes_nothing words = record { spelled = refl; shorter = omega arith }
 

@@ -53,7 +53,7 @@ pub name_more : (text : List ℕ) (inside : List Word) (all names after : List N
     → is_new text names (get_or words i d) ≡ true → name ≡ name_at text inside next (get_or words i d)
     → after ≡ names ++ name ∷ [] → later ≡ behind (declared_at next (declaration_of text inside (get_or words i d)))
     → after ++ new_names text inside after later (drop (i + 1) words) ≡ all
-name_more text inside all names after next later words i d name here so_far new is added then =
+name_more text inside all names after next later words i d name here so_far new is added starts =
     let put : after ≡ names ++ name_at text inside next (get_or words i d) ∷ [] =
     added ∙ ap (λ (t : Named). names ++ t ∷ []) is in
     told_more all names after (new_names text inside names next (drop i words))
@@ -63,7 +63,7 @@ name_more text inside all names after next later words i d name here so_far new 
     ∷ new_names text inside t (behind (declared_at next (declaration_of text inside (get_or words i d))))
     (drop (i + 1) words)) (sym put)
     ∙ ap (λ (t : Beginning). name_at text inside next (get_or words i d)
-    ∷ new_names text inside after t (drop (i + 1) words)) (sym then))
+    ∷ new_names text inside after t (drop (i + 1) words)) (sym starts))
     so_far put
 
 -- none more

@@ -3,7 +3,7 @@ use Rattle.std.proofs.Common.{◌≡◌, ◌≢◌, ℕ, zero, suc, ◌+◌, ◌
 use Rattle.std.proofs.Common.{Option, Some, None, true≢false, take-append-drop}
 use Rattle.std.specs.Prelude.{slice_get, option_and_then, unwrap_or, is_none}
 use Rattle.std.specs.Prelude.{All}
-use Rattle.std.proofs.lemmas.List.{take_more}
+use Rattle.std.proofs.lemmas.List.{length-drop, take_all, take_more}
 use Rattle.std.proofs.lemmas.List.Elements.{All-append, All-cons, All-nil}
 use Rattle.std.proofs.lemmas.Option.{slice_get_within, slice_get-get_or, get_or_from_slice_get}
 use Rattle.std.proofs.Common.{refl, sym, ap, ◌∙◌, subst, inl, inr, arith, append_assoc, append-nil, drop_of_length-le, length-append}
@@ -43,6 +43,15 @@ braced words rest place first is opens closed = record {
   closes = closed.closes;
   alone = closed.alone;
 }
+
+pub braced_at : (words rest : List Word) (place : ℕ) (first : Word) → words ≡ first ∷ rest
+    → first.token ≡ Mark mark.LeftBrace → IsClosedAt rest place
+    → IsBraced words (take place rest) (take (length rest - (place + 1)) (drop (place + 1) rest))
+braced_at words rest place first is opens closed =
+    let long = length-drop (place + 1) rest in
+    subst (IsBraced words (take place rest))
+    (sym (take_all (length rest - (place + 1)) (drop (place + 1) rest) (omega (arith, long))))
+    (braced words rest place first is opens closed)
 
 on_the_same : (o : Option ℕ) → option_and_then (λ (n : ℕ). Some n) o ≡ o
 on_the_same None = refl

@@ -41,10 +41,10 @@ pub(crate) fn declaration_of(text: &[u8], words: &[Word], name: Word) -> Declara
     let mut rest = words;
     while !rest.is_empty() {
         let (entry, behind) = cut(rest, Mark::Semicolon);
-        if let Some(declaration) = declared_by(text, entry, name) {
-            return declaration;
+        match declared_by(text, entry, name) {
+            Some(declaration) => return declaration,
+            None => rest = behind,
         }
-        rest = behind;
     }
     PLAIN
 }

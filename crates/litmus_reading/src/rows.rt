@@ -54,7 +54,7 @@ pub(crate) fn rows_of(words: &[Word], harts: u8, end: usize) -> Result<(&[Word],
         if row.len() == rest.len() {
             return Err(Stop::at(end, Fault::NoCondition));
         }
-        let (columns, harts) = (columns_of(row), usize::from(harts));
+        let (columns, harts) = (columns_of(row), harts as usize);
         if columns != harts {
             return Err(Stop::at(start_of(rest, end), Fault::Columns { columns, harts }));
         }

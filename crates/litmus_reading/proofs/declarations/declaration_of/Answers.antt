@@ -6,7 +6,7 @@ pub loop-rest-preserved : goal.loop-rest-preserved
 loop-rest-preserved c =
     c.loop-rest.invariant ∙ declares_none c.args.text.now c.loop-rest.rest.now _ _ c.args.name
     (grind (arith, tests, c.loop-rest-test.true, c.is_empty.ensures)) c.cut.ensures.cut c.cut.ensures.first
-    c.declared_by.ensures
+    c.in-None.ensures
 
 pub returns : goal.returns
 returns c =

@@ -5,9 +5,9 @@ use Rattle.litmus_reading.specs.Questions.{ListedTaken}
 use Rattle.litmus_reading.proofs.question.read_items.Given as goal
 
 -- what stands before the rest of the rest stands, behind what has been read, before it
-abbrev pub invariant-loop-rest : goal.invariant-loop-rest
-invariant-loop-rest l = (more : List Observed) (whole : List ℕ) (end : List Word) → ListedTaken l.rest more whole end
+abbrev pub invariant-loop-listed : goal.invariant-loop-listed
+invariant-loop-listed l = (more : List Observed) (whole : List ℕ) (end : List Word) → ListedTaken l.rest more whole end
     → ListedTaken l.words (l.listed.observed.items ++ more) (l.listed.whole.items ++ whole) end
 
-abbrev pub decreases-loop-rest : goal.decreases-loop-rest
-decreases-loop-rest l = length l.rest
+abbrev pub decreases-loop-listed : goal.decreases-loop-listed
+decreases-loop-listed l = length l.rest
