@@ -11,8 +11,9 @@ says so on standard error, with status 4. Written from docs/FORMATS.md.
 import sys
 
 import litmus_reading
-from instructions import signed
-from litmus_machine import AT_ITS_END, TooMany, address_of, bounds, final_states, number_of
+from instructions import MASK, signed
+from litmus_machine import AT_ITS_END, TooMany, bounds, final_states, number_of, numbers_of
+from litmus_places import Address, address_text, number_text
 from litmus_words import Refused, place
 
 MOST_STATES = 1000000
@@ -24,21 +25,27 @@ LEAST = {"iff": (0, 1), "implies": (2, 1), "or": (2, 2), "and": (3, 3)}
 HEADS = {"exists": "Allowed", "~exists": "Forbidden", "forall": "Required"}
 
 
-def number_text(test, number):
-    for name in test.locations:
-        if address_of(test, name) == number:
-            return name
-    return str(signed(number))
-
-
 def observed_text(what):
-    return f"{what[0]}:x{what[1]}" if isinstance(what, tuple) else f"[{what}]"
+    if isinstance(what, tuple):
+        return f"{what[0]}:x{what[1]}"
+    return what if what.endswith("]") else f"[{what}]"
 
 
 def state_line(test, state):
     causes, numbers = state
-    looked_at = zip(test.question.observed, numbers)
-    parts = [f"{observed_text(what)}={number_text(test, number)};" for what, number in looked_at]
+    sizes, parts, arrays = numbers_of(test), [], {}
+    for what, number in zip(test.question.observed, numbers):
+        is_register = isinstance(what, tuple)
+        kind = (4, True) if is_register else (sizes[what].size, sizes[what].signed)
+        text, name = number_text(test.declared, number, *kind), "" if is_register else what.partition("[")[0]
+        if name not in test.question.whole:
+            parts.append(f"{observed_text(what)}={text};")
+            continue
+        if name not in arrays:
+            arrays[name] = []
+            parts.append(name)
+        arrays[name].append(text)
+    parts = [f"{part}={{{','.join(arrays[part])}}};" if part in arrays else part for part in parts]
     parts += [f"P{k} stopped {cause};" for k, cause in enumerate(causes) if cause != AT_ITS_END]
     return " ".join(parts)
 
@@ -48,21 +55,23 @@ def shown(text):
     return "".join(f"\\x{ord(c):02x}" if c < " " or c == "\x7f" else c for c in text)
 
 
-def condition_text(condition):
+def condition_text(test, condition):
     kind, *parts = condition
     if kind == "true":
         return "true"
     if kind == "term":
         what, value = parts
-        return f"{observed_text(what)}={value if isinstance(value, str) else signed(value)}"
+        is_address = isinstance(value, Address)
+        text = address_text(test.declared, value.byte) if is_address else str(signed(value & MASK))
+        return f"{observed_text(what)}={text}"
     if kind == "not":
-        return "not " + wrapped(parts[0], BINDS["not"])
+        return "not " + wrapped(test, parts[0], BINDS["not"])
     first, others = LEAST[kind]
-    return SIGNS[kind].join(wrapped(part, others if k else first) for k, part in enumerate(parts))
+    return SIGNS[kind].join(wrapped(test, part, others if k else first) for k, part in enumerate(parts))
 
 
-def wrapped(condition, least):
-    text = condition_text(condition)
+def wrapped(test, condition, least):
+    text = condition_text(test, condition)
     return f"({text})" if BINDS[condition[0]] < least else text
 
 
@@ -72,7 +81,8 @@ def holds(test, condition, numbers):
         return True
     if kind == "term":
         what, value = parts
-        return numbers[test.question.observed.index(what)] == number_of(test, value)
+        size = 4 if isinstance(what, tuple) else numbers_of(test)[what].size
+        return numbers[test.question.observed.index(what)] == number_of(value) & (1 << 8 * size) - 1
     if kind == "not":
         return not holds(test, parts[0], numbers)
     truths = [holds(test, part, numbers) for part in parts]
@@ -95,7 +105,7 @@ def lines(test, found):
     yield "Ok" if is_as_asked else "No"
     yield "Witnesses"
     yield f"Positive: {positive} Negative: {negative}"
-    yield f"Condition {quantifier} ({condition_text(condition)})"
+    yield f"Condition {quantifier} ({condition_text(test, condition)})"
     yield f"Observation {shown(test.name)} {how} {held} {others}"
     yield "stuck" if found.is_stuck else "always can end"
 

@@ -9,6 +9,7 @@ or ("fence",). The place of a branch is that of the instruction to which it goes
 import re
 from typing import NamedTuple
 
+import litmus_places
 from litmus_words import ATOMICS, BRANCHES, IMMEDIATES, LOADS, ORDERED, SHIFTS, STORES, SUBSET, SWAPPED, THREE_REGISTERS
 from litmus_words import TOO_LARGE, WITH_ZERO, ZERO_WITH, Refused
 
@@ -22,14 +23,14 @@ class Looked(NamedTuple):
     number: int
 
 
-def read(cells):
+def read(cells, declared):
     """The instructions of a hart."""
     code, labels = [], {}
     for cell in cells:
         read_label(cell, labels, len(code))
         if cell.peek() is not None:
             at = cell.at()
-            instruction = read_instruction(cell)
+            instruction = read_instruction(cell, declared)
             if len(code) == MOST_STEPS:
                 raise Refused(at, "more than 500 steps of a hart")
             code.append(instruction)
@@ -55,9 +56,9 @@ def resolved(instruction, labels):
     return (*instruction[:3], labels[label.text])
 
 
-def read_instruction(cell):
+def read_instruction(cell, declared):
     """An instruction, with nothing behind it. What has to be small, or 0, is looked at last."""
-    instruction = read_operands(cell)
+    instruction = read_operands(cell, declared)
     cell.nothing_more()
     if not isinstance(instruction[-1], Looked):
         return instruction
@@ -76,7 +77,7 @@ def read_instruction(cell):
     return (*instruction, last.number)
 
 
-def read_operands(cell):
+def read_operands(cell, declared):
     name = cell.take_kind("instruction").text
     if name in (*LOADS, *STORES):
         return read_access(cell, name)
@@ -100,6 +101,8 @@ def read_operands(cell):
     cell.take_mark(",")
     if name == "li":
         return (name, register, cell.take_number())
+    if name == "la":
+        return ("li", register, litmus_places.RAM + litmus_places.take_address(cell, declared).byte)
     if name == "lui":
         return (name, register, Looked(cell.at(), cell.take_number()))
     return read_computing(cell, name, register)

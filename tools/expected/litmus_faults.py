@@ -10,6 +10,7 @@ import re
 import sys
 
 import litmus_code
+import litmus_places
 import litmus_question
 import litmus_reading
 from litmus_words import COMMENT, MOST_BYTES, SUBSET, Reader, Refused, behind_blanks, place, words_of
@@ -21,7 +22,7 @@ WORDLESS = re.compile("more than|a comment|a string|no name|an end|register x0|a
 INSTEAD = {
     "ecall ebreak": "a hart ends behind its last instruction, without one",
     "fence.i": "fence: a test writes no code",
-    "auipc": "a number by li, or an address by a start, as 0:x6=x",
+    "auipc": "a number by li, or an address by la",
     "jalr jr ret call tail": "j and a label: a test has no addresses of code",
     "ld lwu": f"lw: {NARROW}",
     "sd": f"sw: {NARROW}",
@@ -29,6 +30,14 @@ INSTEAD = {
     "sext.w": f"mv: {NARROW}",
     "int64_t uint64_t long": "int: numbers have 32 bits",
     "float double": "int: there is no floating point",
+}
+# What is told of a fault, whatever its word is.
+TOLD = {
+    "a link register other than x0": "j and the label: a test has no addresses of code",
+    "an element that isn't there": "an index or an offset inside: both count from 0",
+    "an array where a number is wanted": "one of its elements, as x[0]",
+    "an address in a byte or a half": "a number, or a location of 32 bits: an address has as many",
+    "a pointer to numbers of another size": "the type that the location has, before the *",
 }
 KINDS = {
     r".*\.rl\.aq": "the same with .aq.rl",
@@ -76,11 +85,11 @@ class Faults:
 
     def see_parts(self, words):
         end = len(self.text)
-        parts = self.look(litmus_reading.split, words, "}", end)
-        names = None if parts is None else self.look(litmus_reading.locations_in, parts[0].words)
-        if names is None:
+        parts = self.look(litmus_reading.split_braces, words, end)
+        declared = None if parts is None else self.look(litmus_places.laid_out, parts[0].words)
+        if declared is None:
             return
-        named = self.see_entries(parts[0].words, end)
+        named = self.see_entries(parts[0].words, declared, end)
         heads = self.look(litmus_reading.split, parts[1], ";", end)
         harts = None if heads is None else self.look(litmus_reading.read_heads, heads[0].words, end)
         if harts is None:
@@ -90,18 +99,18 @@ class Faults:
         seen = self.see_rows(heads[1], harts, end)
         if seen is not None:
             rows, rest = seen
-            self.look(litmus_question.read, Reader(rest, end), names, harts)
+            self.look(litmus_question.read, Reader(rest, end), declared, harts)
             for hart in range(harts):
-                self.see_hart([None if row is None else row[hart] for row in rows])
+                self.see_hart([None if row is None else row[hart] for row in rows], declared)
 
-    def see_entries(self, words, end):
+    def see_entries(self, words, declared, end):
         """The words of harts in entries that are read."""
-        test, named = litmus_reading.Test(""), []
+        test, named = litmus_reading.Test("", declared), []
         while words:
             reader = Reader(words, end)
             length = next((k for k, word in enumerate(words) if word.kind == "mark" and word.text == ";"), len(words))
             try:
-                named += read_entry(test, reader)
+                named += litmus_reading.read_entry(test, reader)
             except Refused as refused:
                 self.put(refused)
             words = words[length + 1 :]
@@ -120,22 +129,22 @@ class Faults:
         self.put(Refused(end, litmus_reading.NO_QUESTION))
         return None
 
-    def see_hart(self, cells):
+    def see_hart(self, cells, declared):
         code, labels, is_read = [], {}, None not in cells
         for cell in cells:
-            if cell is not None and not self.see_cell(cell, code, labels):
+            if cell is not None and not self.see_cell(cell, code, labels, declared):
                 is_read = False
         if is_read:
             for instruction in code:
                 self.look(litmus_code.resolved, instruction, labels)
 
-    def see_cell(self, cell, code, labels):
+    def see_cell(self, cell, code, labels, declared):
         begin = None
         try:
             litmus_code.read_label(cell, labels, len(code))
             begin = cell.peek()
             if begin is not None:
-                instruction = litmus_code.read_instruction(cell)
+                instruction = litmus_code.read_instruction(cell, declared)
                 if len(code) == litmus_code.MOST_STEPS:
                     raise Refused(begin.at, "more than 500 steps of a hart")
                 code.append(instruction)
@@ -144,26 +153,6 @@ class Faults:
             self.put(refused, unknown and refused.what == SUBSET)
             return False
         return True
-
-
-def read_entry(test, reader):
-    """Reads one entry, with its `;`, into the test; the word of its hart, if it has one."""
-    reader.take_if(*litmus_reading.TYPES)
-    at, named = reader.at(), []
-    if reader.peek() is not None and reader.peek().kind == "number":
-        named.append(reader.take())
-        reader.take_mark(":")
-        what = named[-1].text, reader.take_changing_register()
-        reader.take_mark("=")
-        value = litmus_reading.read_start_value(reader)
-    else:
-        what, value = litmus_reading.read_location(reader)
-    if what in test.starts:
-        raise Refused(at, "a second start of the same")
-    test.starts[what] = value
-    if reader.peek() is not None:
-        reader.take_mark(";")
-    return named
 
 
 def word_at(text, at):
@@ -191,7 +180,7 @@ def parts(text):
         line, column = place(text, at)
         word = "" if WORDLESS.match(what) else word_at(text, at)
         said = f"{word} is not known here" if is_instruction and word else f"{what}: {word}" if word else what
-        other = in_place_of(word)
+        other = TOLD.get(what) or in_place_of(word)
         if number == 0:
             yield "cause", f"column {column}: {said}"
             if other:

@@ -7,9 +7,10 @@ its next instruction, its registers, and the address that it has reserved or Non
 from typing import NamedTuple
 
 from instructions import ATOMIC_RESULTS, FORMS, MASK, RESULTS, SIZES, TAKEN, signed
+from litmus_places import RAM, Address, words_in
 from litmus_words import LOADS, STORES
 
-RAM, RAM_BYTES, CODE = 0x80000000, 65536, 0x80000100
+RAM_BYTES, CODE = 65536, 0x80000100
 ACCESSES = (*LOADS, *STORES, "lr.w", "sc.w", *ATOMIC_RESULTS)
 # How many steps that no other hart can see are followed.
 MOST_UNSEEN = 500
@@ -21,20 +22,32 @@ class TooMany(Exception):
     """There are more states than may be looked at, or one reads an instruction's word, which isn't known here."""
 
 
-def address_of(test, name):
-    return RAM + 4 * test.locations.index(name)
-
-
-def number_of(test, value):
+def number_of(value):
     """The word that a value is."""
-    return address_of(test, value) if isinstance(value, str) else value & MASK
+    return RAM + value.byte if isinstance(value, Address) else value & MASK
+
+
+def memory_of(test):
+    """The words of the locations at the start, by their addresses."""
+    memory = bytearray(4 * words_in(test.declared))
+    for name, one in test.declared.items():
+        for k, value in enumerate(test.contents.get(name, [])):
+            number = number_of(value) & (1 << 8 * one.size) - 1
+            begin = one.byte + k * one.size
+            memory[begin : begin + one.size] = number.to_bytes(one.size, "little")
+    return {RAM + at: int.from_bytes(memory[at : at + 4], "little") for at in range(0, len(memory), 4)}
+
+
+def numbers_of(test):
+    """Where each number stands that can be looked at in memory."""
+    return dict(pair for name, one in test.declared.items() for pair in one.numbers(name))
 
 
 def code_end(test):
     """The byte behind the test's code in its image."""
     words = 3 * (len(test.code) - 1) + 1
     for hart, code in enumerate(test.code):
-        starts = sum(what[0] == hart for what in test.starts if isinstance(what, tuple))
+        starts = sum(what[0] == hart for what in test.starts)
         words += 2 + 2 * starts + len(code) + sum(instruction[0] == "li" for instruction in code)
     return CODE + 4 * words
 
@@ -42,12 +55,13 @@ def code_end(test):
 class Machine:
     def __init__(self, test):
         self.test, self.code_end = test, code_end(test)
-        self.at_start = {address_of(test, name): number_of(test, test.starts.get(name, 0)) for name in test.locations}
+        self.at_start = memory_of(test)
+        self.numbers = numbers_of(test)
 
     def first(self):
         harts = []
         for hart in range(len(self.test.code)):
-            registers = [number_of(self.test, self.test.starts.get((hart, k), 0)) for k in range(32)]
+            registers = [number_of(self.test.starts.get((hart, k), 0)) for k in range(32)]
             harts.append((None, 0, tuple(registers), None))
         return tuple(harts), ()
 
@@ -228,5 +242,6 @@ def observed(machine, state):
         if isinstance(what, tuple):
             numbers.append(harts[what[0]][2][what[1]])
         else:
-            numbers.append(machine.read(memory, address_of(machine.test, what)))
+            one = machine.numbers[what]
+            numbers.append(machine.read(memory, RAM + one.byte, one.size))
     return tuple(hart[0] for hart in harts), tuple(numbers)

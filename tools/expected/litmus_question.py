@@ -1,11 +1,12 @@
 """Reads what stands behind the rows of a litmus test: what is looked at, and the condition. A part of litmus.py.
 
 A condition is a tuple: ("true",), ("term", what, value), ("not", C), ("and", C, D, ..), ("or", C, D, ..), ("implies", C,
-D) or ("iff", C, D). What is looked at is a hart and a register, or the name of a location.
+D) or ("iff", C, D). What is looked at is a hart and a register, the name of a location, or `x[1]`.
 """
 
 from typing import NamedTuple
 
+import litmus_places
 from litmus_words import Refused
 
 MOST_TERMS, MOST_LEVELS, MOST_OBSERVED = 32, 16, 64
@@ -16,6 +17,7 @@ class Question(NamedTuple):
     condition: tuple
     filter: tuple
     observed: list  # the registers by hart and number, then the locations in their order
+    whole: set  # the arrays that are shown whole
 
 
 def check_hart(word, harts):
@@ -23,8 +25,8 @@ def check_hart(word, harts):
         raise Refused(word.at, "a hart that isn't there")
 
 
-def read(reader, locations, harts):
-    asked = Asked(reader, locations, harts)
+def read(reader, declared, harts):
+    asked = Asked(reader, declared, harts)
     at = reader.at()
     parts = {}
     while reader.is_mark("locations", "filter") and reader.peek().text not in parts:
@@ -36,10 +38,11 @@ def read(reader, locations, harts):
         quantifier, condition = read_quantifier(reader), asked.read_whole()
     reader.nothing_more("something behind the condition")
     registers = sorted(one for one in asked.named if isinstance(one, tuple))
-    observed = registers + [name for name in locations if name in asked.named]
+    numbers = [what for name, one in declared.items() for what, _ in one.numbers(name)]
+    observed = registers + [what for what in numbers if what in asked.named]
     if len(observed) > MOST_OBSERVED:
         raise Refused(at, "more than 64 registers and locations looked at")
-    return Question(quantifier, condition, parts.get("filter", ("true",)), observed)
+    return Question(quantifier, condition, parts.get("filter", ("true",)), observed, asked.whole)
 
 
 def read_quantifier(reader):
@@ -54,16 +57,31 @@ def read_quantifier(reader):
 class Asked:
     """What is asked, as far as it is read: how many terms there were, and what they and the list name."""
 
-    def __init__(self, reader, locations, harts):
-        self.reader, self.locations, self.harts = reader, locations, harts
-        self.terms, self.named = 0, set()
+    def __init__(self, reader, declared, harts):
+        self.reader, self.declared, self.harts = reader, declared, harts
+        self.terms, self.named, self.whole = 0, set(), set()
 
     def read_list(self):
         self.reader.take_mark("[")
         while not self.reader.take_if("]"):
-            self.read_observed()
+            self.read_listed()
             if not self.reader.is_mark("]"):
                 self.reader.take_mark(";")
+
+    def read_listed(self):
+        """An array as a whole, or a register or a location."""
+        words = self.reader.words[self.reader.next : self.reader.next + 2]
+        one = self.declared.get(words[0].text) if words and words[0].kind == "name" else None
+        if one is None or one.elements is None or len(words) == 2 and litmus_places.is_mark(words[1], "["):
+            self.read_observed()
+            return
+        name = self.reader.take().text
+        self.whole.add(name)
+        self.named |= {what for what, _ in one.numbers(name)}
+
+    def size_of(self, what):
+        """How many bytes a number has that is looked at."""
+        return 4 if isinstance(what, tuple) else self.declared[what.partition("[")[0]].size
 
     def read_observed(self):
         """A register of a hart, or a location."""
@@ -72,19 +90,10 @@ class Asked:
             check_hart(self.reader.take(), self.harts)
             self.reader.take_mark(":")
             what = word.text, self.reader.take_changing_register()
-        elif self.reader.take_if("["):
-            what = self.take_location()
-            self.reader.take_mark("]")
         else:
-            what = self.take_location()
+            what = litmus_places.take_looked_at(self.reader, self.declared)
         self.named.add(what)
         return what
-
-    def take_location(self):
-        word = self.reader.take_kind("name")
-        if word.text not in self.locations:
-            raise Refused(word.at, "a location that is never declared")
-        return word.text
 
     def read_whole(self):
         """A filter, or the condition: each has so many terms."""
@@ -141,7 +150,5 @@ class Asked:
         is_other = self.reader.take_if("!=")
         if not is_other:
             self.reader.take_mark("=")
-        word = self.reader.peek()
-        is_name = word is not None and word.kind == "name"
-        term = ("term", what, self.take_location() if is_name else self.reader.take_number())
+        term = ("term", what, litmus_places.take_value(self.reader, self.declared, self.size_of(what)))
         return ("not", term) if is_other else term

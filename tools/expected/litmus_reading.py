@@ -4,22 +4,23 @@ import re
 from dataclasses import dataclass, field
 
 import litmus_code
+import litmus_places
 import litmus_question
 from limits import MOST_HARTS
 from litmus_words import BLANKS, MOST_BYTES, SUBSET, TYPES, UNFINISHED, Reader, Refused, behind_blanks, words_of
 
-MOST_LOCATIONS = 64
 NO_QUESTION = "no exists, ~exists or forall"
 QUESTIONS = ("exists", "~", "not", "forall", "locations", "filter")
 
 
 @dataclass
 class Test:
-    """A litmus test. A value is a number, or the name of a location."""
+    """A litmus test. A value is a number, or an address."""
 
     name: str
-    locations: list = field(default_factory=list)  # names, in the order in which they come first
-    starts: dict = field(default_factory=dict)  # values by the name of a location, or by hart and register
+    declared: dict = field(default_factory=dict)  # what each name is, in the order in which they come first
+    starts: dict = field(default_factory=dict)  # values by hart and register
+    contents: dict = field(default_factory=dict)  # the values of each location, or of an array's first elements
     code: list = field(default_factory=list)  # the instructions of each hart
     question: object = None
 
@@ -30,17 +31,16 @@ def read(text):
         raise Refused(MOST_BYTES, "more than 65536 bytes")
     name, at = read_head(text)
     test = Test(name)
-    start, rest = split(words_of(text, at)[1:], "}", len(text))
-    start.end = len(text)
-    test.locations = locations_in(start.words)
+    start, rest = split_braces(words_of(text, at)[1:], len(text))
+    test.declared = litmus_places.laid_out(start.words)
     named = read_start(test, start)
     heads, rest = split(rest, ";", len(text))
     harts = read_heads(heads.words, len(text))
     for word in named:
         litmus_question.check_hart(word, harts)
     rows, rest = read_rows(rest, harts, len(text))
-    test.question = litmus_question.read(Reader(rest, len(text)), test.locations, harts)
-    test.code = [litmus_code.read([row[hart] for row in rows]) for hart in range(harts)]
+    test.question = litmus_question.read(Reader(rest, len(text)), test.declared, harts)
+    test.code = [litmus_code.read([row[hart] for row in rows], test.declared) for hart in range(harts)]
     return test
 
 
@@ -85,53 +85,79 @@ def split(words, mark, end):
     raise Refused(end, UNFINISHED)
 
 
-def locations_in(words):
-    """The names in the braces, in the order in which they come first."""
-    names = []
-    for word in words:
-        if word.kind == "name" and word.text not in names:
-            if "." in word.text:
-                raise Refused(word.at, SUBSET)
-            if len(names) == MOST_LOCATIONS:
-                raise Refused(word.at, "more than 64 locations")
-            names.append(word.text)
-    return names
+def split_braces(words, end):
+    """A reader of the words in the braces, in which those of arrays stand, and the words behind them."""
+    depth = 0
+    for k, word in enumerate(words):
+        if word.kind == "mark" and word.text in "{}":
+            if word.text == "}" and depth == 0:
+                return Reader(words[:k], end), words[k + 1 :]
+            depth += 1 if word.text == "{" else -1
+    raise Refused(end, UNFINISHED)
 
 
 def read_start(test, reader):
     """Reads the entries of the braces, and gives the words of the harts in them."""
     named = []
     while reader.peek() is not None:
-        reader.take_if(*TYPES)
-        at = reader.at()
-        if reader.peek() is not None and reader.peek().kind == "number":
-            named.append(reader.take())
-            reader.take_mark(":")
-            what = named[-1].text, reader.take_changing_register()
-            reader.take_mark("=")
-            value = read_start_value(reader)
-        else:
-            what, value = read_location(reader)
-        if what in test.starts:
-            raise Refused(at, "a second start of the same")
-        test.starts[what] = value
-        if reader.peek() is not None:
-            reader.take_mark(";")
+        named += read_entry(test, reader)
     return named
 
 
-def read_location(reader):
-    """A location and its value."""
-    in_brackets, name = reader.take_if("["), reader.take_kind("name").text
+def read_entry(test, reader):
+    """Reads an entry, with the mark behind it, and gives the word of its hart, if it has one."""
+    kind = TYPES[reader.take().text] if reader.is_mark(*TYPES) else TYPES["int"]
+    is_pointer, at, named = reader.take_if("*"), reader.at(), []
+
+    def take_value():
+        if is_pointer:
+            return litmus_places.take_pointed(reader, test.declared, kind[0])
+        return litmus_places.take_value(reader, test.declared, kind[0])
+
+    if reader.peek() is not None and reader.peek().kind == "number":
+        named.append(reader.take())
+        reader.take_mark(":")
+        what, into = (named[0].text, reader.take_changing_register()), test.starts
+        reader.take_mark("=")
+        values = take_value()
+    else:
+        what, into = read_name(reader, test.declared), test.contents
+        values = read_contents(reader, test.declared[what], is_pointer, take_value)
+    if what in into:
+        raise Refused(at, "a second start of the same")
+    into[what] = values
+    if reader.peek() is not None:
+        reader.take_mark(";")
+    return named
+
+
+def read_name(reader, declared):
+    in_brackets, name = reader.take_if("["), litmus_places.take_name(reader, declared)
     if in_brackets:
         reader.take_mark("]")
-    return name, read_start_value(reader) if reader.take_if("=") else 0
+    return name
 
 
-def read_start_value(reader):
-    if reader.peek() is not None and reader.peek().kind == "name":
-        return reader.take().text
-    return reader.take_number()
+def read_contents(reader, one, is_pointer, take_value):
+    """What a location holds, or the first elements of an array."""
+    if one.elements is None:
+        return [take_value()] if reader.take_if("=") else [0]
+    reader.take_mark("[")
+    at, count = reader.at(), reader.take_kind("number").text
+    if count == 0 or is_pointer:
+        raise Refused(at, SUBSET)
+    reader.take_mark("]")
+    if not reader.take_if("="):
+        return [0]
+    reader.take_mark("{")
+    values = []
+    while True:
+        if len(values) == one.elements:
+            raise Refused(reader.at(), litmus_places.NO_ELEMENT)
+        values.append(take_value())
+        if not reader.take_if(","):
+            reader.take_mark("}")
+            return values
 
 
 def read_heads(words, end):

@@ -16,9 +16,22 @@ import sys
 import litmus_reading
 from instructions import ATOMIC_RESULTS, TAKEN
 from litmus import holds, test_file
-from litmus_machine import address_of, number_of, result, with_register
+from litmus_machine import memory_of, number_of, numbers_of, result, with_register
+from litmus_places import RAM, address_text, words_in
 
 RELATIONS = ("po", "rf", "co", "fr", "breaks")
+
+
+def words_of(test):
+    """The addresses of the words of the locations, by their names: `x`, and `x[1]` where an element begins the word."""
+    begins = {one.byte: what for what, one in numbers_of(test).items()}
+    return {begins[at]: RAM + at for at in range(0, 4 * words_in(test.declared), 4)}
+
+
+def starts_of(test):
+    """What the words hold at the start, by their names."""
+    memory = memory_of(test)
+    return {name: memory[address] for name, address in words_of(test).items()}
 
 
 class Access:
@@ -31,7 +44,7 @@ class Access:
 def ways(test, hart, known):
     """All ways of a hart to its end: its accesses and its registers. `known` are the numbers of each location."""
     code = test.code[hart]
-    registers = tuple(number_of(test, test.starts.get((hart, k), 0)) for k in range(32))
+    registers = tuple(number_of(test.starts.get((hart, k), 0)) for k in range(32))
     waiting = [(0, registers, (), None)]
     while waiting:
         place, registers, accesses, held = waiting.pop()
@@ -56,7 +69,7 @@ def ways(test, hart, known):
 def accessed(test, place, name, operands, registers, accesses, held, known):
     """All that an access may come to: the registers, the access if there is one, and the LR that is held."""
     offset = operands[1] if name in ("lw", "sw") else 0
-    location = next(n for n in test.locations if address_of(test, n) == registers[operands[-1]] + offset)
+    location = next(n for n, at in words_of(test).items() if at == registers[operands[-1]] + offset)
     own = None if held and held[0] == location else held
     if name == "sw":
         yield registers, Access(place, location, None, registers[operands[0]]), own
@@ -82,7 +95,7 @@ def accessed(test, place, name, operands, registers, accesses, held, known):
 def all_ways(test):
     """Each hart's ways, where each read finds a number that is there at the start or that some way writes. A number that
     is handed on from write to write takes at most as many turns as there are writes."""
-    known = {name: {number_of(test, test.starts.get(name, 0))} for name in test.locations}
+    known = {name: {number} for name, number in starts_of(test).items()}
     turns = 0
     while True:
         found = [list(ways(test, hart, known)) for hart in range(len(test.code))]
@@ -174,7 +187,7 @@ def may_hold(test, registers):
     for one in terms:
         if one[0] == "term" and isinstance(one[1], tuple):
             hart, register = one[1]
-            if registers[hart][register] != number_of(test, one[2]):
+            if registers[hart][register] != number_of(one[2]):
                 return False
     return True
 
@@ -187,12 +200,12 @@ def related(test, events):
     options = []
     for read in reads:
         access = events[read][2]
-        at_start = number_of(test, test.starts.get(access.location, 0)) == access.reads
+        at_start = starts_of(test)[access.location] == access.reads
         options.append(([None] if at_start else []) + [
             w for w in writes
             if w != read and events[w][2].location == access.location and events[w][2].writes == access.reads
         ])
-    orders = [list(itertools.permutations([w for w in writes if events[w][2].location == n])) for n in test.locations]
+    orders = [list(itertools.permutations([w for w in writes if events[w][2].location == n])) for n in words_of(test)]
     for sources in itertools.product(*options):
         for order in itertools.product(*orders):
             ranks = {w: rank for one in order for rank, w in enumerate(one, 1)}
@@ -211,12 +224,14 @@ def meets(test, registers, candidate):
         if isinstance(what, tuple):
             numbers.append(registers[what[0]][what[1]])
             continue
-        number, last = number_of(test, test.starts.get(what, 0)), 0
+        one = numbers_of(test)[what]
+        word = next(name for name, address in words_of(test).items() if address == RAM + one.byte // 4 * 4)
+        number, last = starts_of(test)[word], 0
         for write, rank in candidate.ranks.items():
             access = candidate.events[write][2]
-            if access.location == what and rank > last:
+            if access.location == word and rank > last:
                 number, last = access.writes, rank
-        numbers.append(number)
+        numbers.append(number >> 8 * (one.byte % 4) & (1 << 8 * one.size) - 1)
     return holds(test, test.question.filter, numbers) and holds(test, test.question.condition, numbers)
 
 
@@ -225,7 +240,8 @@ def letter(event):
 
 
 def number_text(test, number):
-    return next((name for name in test.locations if address_of(test, name) == number), str(number))
+    is_address = RAM <= number < RAM + 4 * words_in(test.declared)
+    return address_text(test.declared, number - RAM) if is_address else str(number)
 
 
 def access_text(test, access):
@@ -311,7 +327,7 @@ class Found:
         yield from (f"hart {hart} in column {hart}" for hart in range(len(self.test.code)))
         at_start = {events[r][2].location for r, source in shown.sources.items() if source is None}
         for name in sorted(at_start):
-            yield f"start {name} {number_text(self.test, number_of(self.test, self.test.starts.get(name, 0)))}"
+            yield f"start {name} {number_text(self.test, starts_of(self.test)[name])}"
         for event, (hart, place, access) in enumerate(events):
             text = f"{access_text(self.test, access)} | {instruction_text(self.test, hart, access.step)}"
             yield f"box {letter(event)} in column {hart}, row {place}: {text}"

@@ -7,7 +7,9 @@ from every_order import NAMES
 
 MOST_BYTES = 65536
 BLANKS = " \t\n\r\f"
-TYPES = ("int", "unsigned", "int32_t", "uint32_t")
+# The types of numbers: how many bytes each has, and whether it has a sign.
+TYPES = {"int": (4, True), "unsigned": (4, False), "char": (1, False), "short": (2, True)}
+TYPES |= {f"{'u' * (not signed)}int{8 * size}_t": (size, signed) for size in (1, 2, 4) for signed in (True, False)}
 KEYWORDS = ("not", "true", "exists", "forall", "locations", "filter", *TYPES)
 ATOMICS = [f"amo{name}.w" for name in ("swap", "add", "and", "or", "xor", "min", "max", "minu", "maxu")]
 ORDERED = [name + order for name in ("lr.w", "sc.w", *ATOMICS) for order in ("", ".aq", ".rl", ".aqrl", ".aq.rl")]
@@ -20,7 +22,7 @@ BRANCHES = {name: name for name in ("beq", "bne", "blt", "bge", "bltu", "bgeu")}
 SWAPPED = {"bgt": "blt", "ble": "bge", "bgtu": "bltu", "bleu": "bgeu"}
 WITH_ZERO = {"beqz": "beq", "bnez": "bne", "bltz": "blt", "bgez": "bge"}
 ZERO_WITH = {"bgtz": "blt", "blez": "bge"}
-MNEMONICS = {*LOADS, *STORES, "li", "lui", "mv", "nop", "j", "jal", "fence", "fence.tso"}
+MNEMONICS = {*LOADS, *STORES, "li", "la", "lui", "mv", "nop", "j", "jal", "fence", "fence.tso"}
 MNEMONICS |= {*ORDERED, *IMMEDIATES, *THREE_REGISTERS, *BRANCHES, *SWAPPED, *WITH_ZERO, *ZERO_WITH}
 REGISTERS = {f"x{k}": k for k in range(32)} | {name: k for k, name in enumerate(NAMES)} | {"fp": 8}
 
@@ -111,7 +113,7 @@ def words_of(text, at):
     found = []
     at = behind_blanks(text, at)
     while at < len(text):
-        spelled = re.compile(r"[A-Za-z0-9_][A-Za-z0-9_.]*|<=>|=>|!=|/\\|\\/|[,:;|=()\[\]{}~-]").match(text, at)
+        spelled = re.compile(r"[A-Za-z0-9_][A-Za-z0-9_.]*|<=>|=>|!=|/\\|\\/|[,:;|=()\[\]{}~*+-]").match(text, at)
         if not spelled:
             raise Refused(at, SUBSET)
         found.append(word_of(spelled.group(), *spelled.span()))

@@ -13,6 +13,7 @@ LITMUS_WORDS = rb"""
 ; | = : , ( ) [ ] { } ~ /\ \/ => <=> != - (* *) " % < > !
 not true exists forall locations filter int P0 P1 P9 P15 P16 L0 L9 x w x0 x5 x32 a0 a.b
 0 1 01 7 0x 0xA 0XfF 00x1 0xffffffff 4294967296 2048 1048576
++ * int8_t uint8_t short int16_t la
 nop lw sw sb lhu li lui mulh lr.w.aqrl lr.w.rl.aq sc.w amoadd amomaxu.w.rl slli srai beq bnez bgt blez j fence fence.i fadd.s
 """.split()
 

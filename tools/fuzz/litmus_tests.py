@@ -8,6 +8,9 @@ ABI_NAMES = {1: "ra", 2: "sp", 5: "t0", 6: "t1", 7: "t2", 8: "fp", 9: "s1", 10: 
 # The registers for numbers, and for addresses.
 REGISTERS, BASES = (5, 5, 7, 7, 10, 31), (6, 8, 9, 30)
 NUMBERS = (0, 0, 1, 1, 1, 2, 3, -1, 4, 255, 2**31 - 1, -(2**31))
+# The types of numbers, by their bytes, and the numbers that fit in fewer than four.
+TYPES = {1: ("int8_t", "uint8_t", "char"), 2: ("int16_t", "uint16_t", "short"), 4: ("int", "unsigned", "int32_t", "uint32_t")}
+NARROW = {1: (0, 0, 1, 1, 2, -1, 127, 128, 255, -128), 2: (0, 1, 1, 2, -1, 255, 32767, 32768, 65535, -32768), 4: NUMBERS}
 ATOMICS = [f"amo{name}.w" for name in ("swap", "add", "and", "or", "xor", "min", "max", "minu", "maxu")]
 SHIFTS = ("slli", "srli", "srai")
 IMMEDIATES = ("addi", "ori", "xori", "andi", "slti", "sltiu", *SHIFTS)
@@ -54,31 +57,75 @@ class Maker:
         self.r = r
         self.harts = r.choice((1, 2, 2, 2, 2, 3, 3, 4) * 3 + (9, 16, 17))
         self.names = r.sample(NAMES, r.choice((1, 2, 2, 2, 3)))
+        # The bytes of each name's numbers, and how many elements an array has; half of the tests have words alone.
+        has_types = r.random() < 0.5
+        self.sizes = {name: r.choice((1, 2, 4, 4)) if has_types else 4 for name in self.names}
+        self.elements = {name: r.choice((None, None, 1, 2, 2, 3, 5)) if has_types else None for name in self.names}
         # The registers that hold an address, by hart, those that hold another number, and those that are written.
         self.bases = [[] for _ in range(self.harts)]
         self.holding = [[] for _ in range(self.harts)]
         self.written = [[] for _ in range(self.harts)]
         self.loops = False
 
-    def value(self):
-        if self.r.random() < 0.2:
-            return [self.r.choice(self.names)]
-        return number(self.r, self.r.choice(NUMBERS))
+    def index(self, name):
+        """An index of an array in brackets, which is rarely outside."""
+        r, last = self.r, (self.elements[name] or 1) - 1
+        return ["[", *number(r, r.choice((0, 1, last, last) if r.random() < 0.02 else (0, last, last // 2))), "]"]
+
+    def address(self, name=None):
+        """An address: of a location, of a byte in it, or of an element."""
+        r, name = self.r, name or self.r.choice(self.names)
+        if self.elements[name] is not None and r.random() < 0.5:
+            return [name, *self.index(name)]
+        if r.random() < 0.12:
+            bytes_of = self.sizes[name] * (self.elements[name] or 1)
+            return [name, "+", *number(r, r.choice((0, 0, bytes_of - 1, bytes_of - self.sizes[name], bytes_of - (r.random() < 0.9))))]
+        return [name]
+
+    def value(self, size=4):
+        if self.r.random() < (0.2 if size == 4 else 0.005):
+            return self.address()
+        fits = NARROW[size] if self.r.random() < 0.98 else NUMBERS
+        return number(self.r, self.r.choice(fits))
 
     def location(self):
+        """A location or an element that is looked at, and the bytes of its number."""
         name = self.r.choice(self.names)
-        return ["[", name, "]"] if self.r.random() < 0.4 else [name]
+        if self.elements[name] is not None and self.r.random() < 0.97:
+            return [name, *self.index(name)], self.sizes[name]
+        return ["[", name, "]"] if self.r.random() < 0.4 else [name], self.sizes[name]
+
+    def declaration(self, name):
+        """The entry of a location or an array."""
+        r, size, elements = self.r, self.sizes[name], self.elements[name]
+        if elements is not None:
+            values = [self.value(size) for _ in range(r.choice((elements, elements, elements, 1, elements + (r.random() < 0.05))))]
+            listed = [word for value in values for word in [",", *value]][1:]
+            filled = ["=", "{", *listed, "}"] if r.random() < 0.6 else []
+            return [r.choice(TYPES[size]), name, "[", *number(r, elements), "]", *filled]
+        if size == 4 and r.random() < 0.15:
+            other = r.choice(self.names)
+            kind = self.sizes[other] if r.random() < 0.97 else 4
+            return [r.choice(TYPES[kind]), "*", name, *(["=", *self.address(other)] if r.random() < 0.8 else [])]
+        plain = [["[", name, "]"], [name]] if size == 4 else []
+        entry = r.choice([*plain, [r.choice(TYPES[size]), name], [r.choice(TYPES[size]), name]])
+        return entry + (["=", *self.value(size)] if r.random() < 0.6 else [])
+
+    def based(self, hart, base):
+        """The entry of a register that holds an address."""
+        r, name = self.r, self.r.choice(self.names)
+        pointer = [r.choice(TYPES[self.sizes[name] if r.random() < 0.98 else 1]), "*"] if r.random() < 0.2 else []
+        return [*pointer, str(hart), ":", register(r, base), "=", *self.address(name)]
 
     def entries(self):
         """The entries of the braces."""
         r, entries = self.r, []
         for name in self.names:
-            entry = r.choice(([name], ["[", name, "]"], ["int", name], ["uint32_t", name]))
-            entries.append(entry + (["=", *self.value()] if r.random() < 0.6 else []))
+            entries.append(self.declaration(name))
         for hart in range(self.harts):
             self.bases[hart] = r.sample(BASES, r.choice((1, 2, 2)))
             for base in self.bases[hart]:
-                entries.append([str(hart), ":", register(r, base), "=", r.choice(self.names)])
+                entries.append(self.based(hart, base))
             self.holding[hart] = r.sample((5, 7, 10, 31), r.choice((0, 1, 2, 2)))
             for other in self.holding[hart]:
                 entries.append([str(hart), ":", register(r, other), "=", *self.value()])
@@ -122,7 +169,7 @@ class Maker:
     def access(self, hart, _labels):
         r = self.r
         name = r.choice(r.choice((LOADS, STORES)))
-        inside = ("1", "2", "3", "0x2") if name[1] in "bh" else ("4", "0x0", "0", "0")
+        inside = ("1", "2", "3", "0x2", "4") if name[1] in "bh" else ("4", "0x0", "0", "0")
         offset = r.choice(([], [], ["0"], ["0"], ["0"], ["0"], ["0"], [r.choice(inside)], [r.choice(inside)], [],
                            number(r, r.choice((1, 2, 4, 8, -4, 256, 2047)))))
         first = self.source(hart) if name in STORES else self.target(hart)
@@ -137,12 +184,14 @@ class Maker:
 
     def arithmetic(self, hart, _labels):
         r, first = self.r, self.target(hart)
-        name = r.choice(("li", "li", "mv", "nop", "lui", r.choice(IMMEDIATES), r.choice(IMMEDIATES),
+        name = r.choice(("li", "li", "la", "mv", "nop", "lui", r.choice(IMMEDIATES), r.choice(IMMEDIATES),
                          r.choice(THREE_REGISTERS), r.choice(THREE_REGISTERS)))
         if name == "nop":
             return [name]
         if name == "li":
             return [name, first, ",", *number(r, r.choice(NUMBERS))]
+        if name == "la":
+            return [name, register(r, r.choice(self.bases[hart])), ",", *self.address()]
         if name == "lui":
             return [name, first, ",", *number(r, r.choice((0, 1, 0x80000, 0xFFFFF)))]
         words = [name, first, ",", self.any_register()]
@@ -194,18 +243,20 @@ class Maker:
         return words
 
     def observed(self):
+        """What is looked at, and the bytes of its number."""
         r = self.r
-        if r.random() < 0.3:
+        if r.random() < 0.35:
             return self.location()
         hart = r.randrange(self.harts)
-        return [str(hart), ":", register(r, r.choice(self.written[hart] or REGISTERS))]
+        return [str(hart), ":", register(r, r.choice(self.written[hart] or REGISTERS))], 4
 
     def condition(self, depth):
         r = self.r
         kind = r.random()
         if depth == 0 or kind < 0.25:
             sign = r.choice(("=", "=", "=", "!="))
-            return ["true"] if r.random() < 0.05 else [*self.observed(), sign, *self.value()]
+            what, size = self.observed()
+            return ["true"] if r.random() < 0.05 else [*what, sign, *self.value(size)]
         if kind < 0.4:
             return [r.choice(("~", "not")), *self.condition(0 if r.random() < 0.5 else depth - 1)]
         if kind < 0.55:
@@ -216,7 +267,8 @@ class Maker:
     def listed(self):
         r, words = self.r, ["locations", "["]
         for _ in range(r.choice((0, 2, 4, 6))):
-            words += [*self.observed(), ";"]
+            is_whole = r.random() < 0.15
+            words += [*([r.choice(self.names)] if is_whole else self.observed()[0]), ";"]
         return [*words[: -1 if len(words) > 2 and r.random() < 0.2 else None], "]"]
 
     def question(self):

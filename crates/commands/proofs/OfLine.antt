@@ -188,14 +188,14 @@ program_says harts command (Ok text) (Ok file) second lines Traced old new statu
 program_says harts command (Ok text) (Err why) second lines Traced old new status is = absurd is.2
 program_says harts command (Err why) image second lines Traced old new status is = absurd is
 
-litmus_says : (litmus : LitmusCommand) (config test : Read) (old new : Option (List ℕ)) (status : ℕ)
-    → LitmusLineComesTo litmus config test old new status → IsTrue (says_harts status)
-litmus_says litmus (Ok text) (Ok file) old new status is = elim is.2.comes [
+litmus_says : (litmus : LitmusCommand) (config test : Read) (Traced : ToWrite → Type 0) (old new : Option (List ℕ))
+    (status : ℕ) → LitmusLineComesTo litmus config test Traced old new status → IsTrue (says_harts status)
+litmus_says litmus (Ok text) (Ok file) Traced old new status is = elim is.2.comes [
   | inl all ↦ zero_says status all.zero
   | inr more ↦ ap says_harts more.three
 ]
-litmus_says litmus (Ok text) (Err why) old new status is = absurd is.2
-litmus_says litmus (Err why) test old new status is = absurd is
+litmus_says litmus (Ok text) (Err why) Traced old new status is = absurd is.2
+litmus_says litmus (Err why) test Traced old new status is = absurd is
 
 migration_says : (config trace : Read) (Traced : ToWrite → Type 0) (old new : Option (List ℕ)) (status : ℕ)
     → MigrateLineComesTo config trace Traced old new status → IsTrue (says_harts status)
@@ -218,7 +218,7 @@ status_says harts (commands.OfProgram command) config image second lines Traced 
 status_says harts (commands.Explain explain) config image second lines Traced old new status is =
     explain_says harts explain.beside config image second old new status is
 status_says harts (commands.Litmus litmus) config test second lines Traced old new status is =
-    litmus_says litmus config test old new status is
+    litmus_says litmus config test Traced old new status is
 status_says harts (commands.Migrate migrate) config none trace lines Traced old new status is =
     migration_says config trace Traced old new status is
 

@@ -7,7 +7,7 @@ use Rattle.sim_inputs.specs.declared.line.LitmusCommand.{LitmusCommand}
 use Rattle.command_parts.specs.declared.refused.Refused.{Refused}
 use Rattle.command_parts.specs.declared.refused.Refused.TheVariants as reason
 use Rattle.plain_commands.specs.Litmus.{IsLitmusRefusal, LitmusComesTo}
-use Rattle.commands.specs.Perform.{IsLitmusLineRefusal, LitmusLineComesTo}
+use Rattle.commands.specs.{Perform.IsLitmusLineRefusal, Perform.LitmusLineComesTo, Written.ToWrite, Written.TextOf}
 use Rattle.commands.proofs.Sound.{kept}
 
 module _ (litmus : LitmusCommand) (text file : List ℕ) (settings : Settings)
@@ -53,19 +53,22 @@ module _ (litmus : LitmusCommand) (text file : List ℕ) (settings : Settings)
   test_output = (settings, configured, tt)
 
   -- A flush changes nothing of what it comes to.
-  pub test_flushed : (old mid new : Option (List ℕ)) (status : ℕ) → LitmusComesTo litmus old mid status
-      → Keeps mid new → LitmusLineComesTo litmus (Ok text) (Ok file) old new status
-  test_flushed old mid new status is flushed = (
+  pub test_flushed : (Traced : ToWrite → Type 0) (old mid new : Option (List ℕ)) (status : ℕ)
+      → LitmusComesTo file litmus (λ bytes. Traced (TextOf bytes)) old mid status → Keeps mid new
+      → LitmusLineComesTo litmus (Ok text) (Ok file) Traced old new status
+  test_flushed Traced old mid new status is flushed = (
     settings,
     configured,
     record {
       test = is.test;
+      is_text = is.is_text;
       well_formed = is.well_formed;
       comes = elim is.comes [
         | inl all ↦ inl (record {
           image = all.image;
           watch = all.watch;
           searched = all.searched;
+          kept = all.kept;
           found = all.found;
           all = all.all;
           cores = all.cores;
@@ -81,6 +84,7 @@ module _ (litmus : LitmusCommand) (text file : List ℕ) (settings : Settings)
           image = more.image;
           watch = more.watch;
           searched = more.searched;
+          kept = more.kept;
           beyond = more.beyond;
           printed = kept old mid new _ more.printed flushed;
           three = more.three;

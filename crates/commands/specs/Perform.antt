@@ -111,9 +111,10 @@ IsLitmusLineRefusal litmus config test reason =
 
 -- What it comes to: the configuration's settings are a core's, and the command has come to what is owed on
 -- it. Of the settings nothing else is asked.
-abbrev pub LitmusLineComesTo : LitmusCommand → Read → Read → Option (List ℕ) → Option (List ℕ) → ℕ → Type 0
-LitmusLineComesTo litmus config test old new status =
-    OfSettings config (λ settings. OfFile test (λ text. LitmusComesTo litmus old new status))
+abbrev pub LitmusLineComesTo : LitmusCommand → Read → Read → (ToWrite → Type 0) → Option (List ℕ)
+    → Option (List ℕ) → ℕ → Type 0
+LitmusLineComesTo litmus config test Traced old new status = OfSettings config (λ settings. OfFile test (λ text.
+    LitmusComesTo text litmus (λ file. Traced (TextOf file)) old new status))
 
 -- When each refusal comes of a migration: the configuration is looked at first, then the trace. A file that
 -- can't be read is refused where it is looked at.
@@ -154,7 +155,7 @@ LineComesTo harts (commands.OfProgram command) config image second lines Traced 
 LineComesTo harts (commands.Explain explain) config image second lines Traced old new status =
     ExplainLineComesTo harts explain.beside config image second old new status
 LineComesTo harts (commands.Litmus litmus) config test second lines Traced old new status =
-    LitmusLineComesTo litmus config test old new status
+    LitmusLineComesTo litmus config test Traced old new status
 LineComesTo harts (commands.Migrate migrate) config none trace lines Traced old new status =
     MigrateLineComesTo config trace Traced old new status
 

@@ -170,7 +170,8 @@ fn read_and_test<G: Gate, S: EndFiles, W: Write>(
     ensures refused { IfErr result (IsLitmusLineRefusal litmus.now (as_read inputs.now.config)
         (as_read inputs.now.program)) }
     ensures ended { IfOk result (LitmusLineComesTo litmus.now (as_read inputs.now.config)
-        (as_read inputs.now.program) (W.contents out.old) (W.contents out.new)) }
+        (as_read inputs.now.program) (IsWritten S.begins S.written S.has_failed file.old file.new)
+        (W.contents out.old) (W.contents out.new)) }
     ensures finished { OnOk result (S.is_finished file.new ≡ true) }
     ensures unwanted { is_some (written_for_test litmus.now) ≡ false → file.new ≡ file.old }
     ensures unreported { S.has_failed file.new ≡ true

@@ -1,6 +1,6 @@
 //! The images of two litmus tests: store buffering, of which each end is known, and the code of one with branches.
 
-ghost use Rattle.std.specs.Prelude.{◌<◌, ◌≤◌, ◌≡◌, length, All, Contains, IfOk};
+ghost use Rattle.std.specs.Prelude.{◌<◌, ◌≤◌, ◌≡◌, [], length, All, Contains, IfOk};
 ghost use Rattle.litmus_tests.specs.WellFormed.{IsStart, IsStep, IsThread, IsWellFormed};
 ghost use Rattle.litmus_tests.specs.WellFormed.{IsValue, IsCondition};
 ghost use Rattle.litmus_tests.specs.declared.value.Value.{Value};
@@ -10,8 +10,8 @@ use crate::rows::holds;
 use elf_image::Image;
 use litmus_images::{harts_of, holds_in, image_of, value_in, watch_of};
 use litmus_tests::{
-    Condition, LitmusStep, LitmusTest, Location, Observed, Quantifier, RegisterStart, Term, Thread,
-    Value,
+    Condition, LitmusStep, LitmusTest, Observed, Quantifier, RegisterStart, Term, Thread, Value,
+    Width,
 };
 use outcomes::{Outcomes, find_outcomes};
 use rv_instr::{BranchOp, Instr, LoadOp, RegisterOp, StoreOp};
@@ -26,11 +26,11 @@ fn buffering_starts(own: usize, alloc: Global) -> Result<Vec<RegisterStart>, All
     let mut starts = Vec::new(alloc);
     starts.push(RegisterStart {
         register: 5,
-        value: Value::Address(own),
+        value: Value::Address(4 * own),
     })?;
     starts.push(RegisterStart {
         register: 6,
-        value: Value::Address(1 - own),
+        value: Value::Address(4 - 4 * own),
     })?;
     Ok(starts)
 }
@@ -80,24 +80,15 @@ fn buffering_threads(alloc: Global) -> Result<Vec<Thread>, AllocError>
     Ok(threads)
 }
 
-/// A location whose word is 0 at the start.
-fn zero(alloc: Global) -> Location
-    ensures { result.initial ≡ Value.Number 0 }
-{
-    Location {
-        name: Vec::new(alloc),
-        initial: Value::Number(0),
-    }
-}
-
-fn two_zeros(alloc: Global) -> Result<Vec<Location>, AllocError>
-    ensures sound { IfOk result (λ all. All (λ location. IsValue 2 location.initial) all.items) }
+/// The words of two locations, 0 at the start.
+fn two_zeros(alloc: Global) -> Result<Vec<Value>, AllocError>
+    ensures sound { IfOk result (λ all. All (IsValue 2) all.items) }
     ensures two { IfOk result (λ all. length all.items ≡ 2) }
 {
-    let mut locations = Vec::new(alloc);
-    locations.push(zero(alloc))?;
-    locations.push(zero(alloc))?;
-    Ok(locations)
+    let mut words = Vec::new(alloc);
+    words.push(Value::Number(0))?;
+    words.push(Value::Number(0))?;
+    Ok(words)
 }
 
 /// x8 of both harts.
@@ -119,11 +110,12 @@ fn two_registers(alloc: Global) -> Result<Vec<Observed>, AllocError>
 /// That x8 of a hart is 0.
 fn is_zero(hart: u8, alloc: Global) -> Result<Box<Condition>, AllocError>
     requires { Contains both_registers (Observed.Register hart 8) }
-    ensures { IfOk result (λ found. IsCondition 2 both_registers found.value) }
+    ensures { IfOk result (λ found. IsCondition 2 [] both_registers found.value) }
 {
     let term = Term {
         observed: Observed::Register { hart, register: 8 },
         value: Value::Number(0),
+        width: Width::Word,
     };
     Ok(Box::new(alloc, Condition::Holds(term))?)
 }
@@ -133,14 +125,15 @@ fn is_zero(hart: u8, alloc: Global) -> Result<Box<Condition>, AllocError>
 fn buffering(alloc: Global) -> Result<LitmusTest, AllocError>
     ensures { IfOk result IsWellFormed }
 {
-    let locations = two_zeros(alloc)?;
+    let words = two_zeros(alloc)?;
     let threads = buffering_threads(alloc)?;
     let observed = two_registers(alloc)?;
     let first = is_zero(0, alloc)?;
     let second = is_zero(1, alloc)?;
     Ok(LitmusTest {
         name: Vec::new(alloc),
-        locations,
+        words,
+        locations: Vec::new(alloc),
         threads,
         filter: Condition::Always,
         quantifier: Quantifier::Exists,
@@ -201,6 +194,7 @@ fn branching(alloc: Global) -> Result<LitmusTest, AllocError>
     let threads = branching_threads(alloc)?;
     Ok(LitmusTest {
         name: Vec::new(alloc),
+        words: Vec::new(alloc),
         locations: Vec::new(alloc),
         threads,
         filter: Condition::Always,

@@ -4,7 +4,7 @@
 use litmus_reading::{MOST_BYTES, ReadingRefused, read_litmus};
 use litmus_tests::{
     AccessSet, Condition, Fence, LitmusStep, LitmusTest, Observed, Quantifier, RegisterStart, Term,
-    Value,
+    Value, Width, beginning_at, narrowed, type_of,
 };
 use rv_instr::{BranchOp, ImmediateOp, Instr, LoadOp, Ordering, RegisterOp, StoreOp};
 use rv_word::AmoKind;
@@ -111,13 +111,15 @@ fn starts(test: &LitmusTest, hart: usize, starts: &[RegisterStart]) -> bool {
     }
 }
 
-/// Whether the location with this index is this one.
+/// Whether the location with this index is this one, and its word begins so.
 fn is_location(test: &LitmusTest, index: usize, name: &str, initial: Value) -> bool {
-    match test.locations.get(index) {
-        Some(location) => {
-            location.name.as_slice() == name.as_bytes() && location.initial == initial
+    match (test.locations.get(index), test.words.get(index)) {
+        (Some(location), Some(word)) => {
+            location.name.as_slice() == name.as_bytes()
+                && location.byte == 4 * index
+                && *word == initial
         }
-        None => false,
+        _ => false,
     }
 }
 
@@ -154,7 +156,7 @@ fn reads_store_buffering(rt: HostRuntime) {
     assert!(rt; is_location(&test, 0, "x", Value::Number(0)));
     assert!(rt; is_location(&test, 1, "y", Value::Number(0)));
     let start = |register, value| RegisterStart { register, value };
-    let (one, x, y) = (Value::Number(1), Value::Address(0), Value::Address(1));
+    let (one, x, y) = (Value::Number(1), Value::Address(0), Value::Address(4));
     assert!(rt; starts(&test, 0, &[start(5, one), start(6, x), start(8, y)]));
     assert!(rt; starts(&test, 1, &[start(5, one), start(6, y), start(8, x)]));
     assert!(rt; test.threads.len() == 2);
@@ -261,9 +263,13 @@ fn reads_load_buffering_with_addresses(rt: HostRuntime) {
 }
 
 fn holds(observed: Observed, value: u32, condition: &Condition) -> bool {
-    let value = Value::Number(value);
+    let term = Term {
+        observed,
+        value: Value::Number(value),
+        width: Width::Word,
+    };
     match condition {
-        Condition::Holds(term) => *term == Term { observed, value },
+        Condition::Holds(found) => *found == term,
         _ => false,
     }
 }
@@ -398,7 +404,7 @@ fn reads_what_never_is(rt: HostRuntime) {
 }
 
 /// Texts that are refused, and how.
-static REFUSED: [(&str, &str); 35] = [
+static REFUSED: [(&str, &str); 39] = [
     (
         "X86 SB\n",
         "line 1, column 1: a first word that isn't RISCV: X86",
@@ -513,6 +519,22 @@ static REFUSED: [(&str, &str); 35] = [
         "line 5, column 1: no exists, ~exists or forall",
     ),
     (
+        "RISCV A\n{ int x[2]; }\nP0;\nexists (x[2]=1)",
+        "line 4, column 11: an element that isn't there: 2",
+    ),
+    (
+        "RISCV A\n{ int x[2]; }\nP0;\nexists (x=1)",
+        "line 4, column 9: an array where a number is wanted: x",
+    ),
+    (
+        "RISCV A\n{ int8_t y=x; x; }\nP0;\nexists true",
+        "line 2, column 12: an address in a byte or a half: x",
+    ),
+    (
+        "RISCV A\n{ int8_t y; short *0:x5=y; }\nP0;\nexists true",
+        "line 2, column 25: a pointer to numbers of another size: y",
+    ),
+    (
         "RISCV A\n{ }\nP0;\nexists (z=1)",
         "line 4, column 9: a location that is never declared: z",
     ),
@@ -587,6 +609,54 @@ fn has_limit(
         return false;
     };
     read_litmus(text.as_slice(), alloc).is_ok() && is_refused(longer.as_slice(), want, alloc)
+}
+
+/// Bytes stand in their word from the lowest on, and a location behind them begins the next one.
+const TYPES: &str = "RISCV types
+{ int8_t b[5]={1,-2,0x7f}; uint16_t h=65535; char *p=b[4]; 0:x6=h; }
+ P0 ;
+ la x7,b+2 ;
+exists (b[1]=254)
+";
+
+#[test]
+fn reads_types_and_arrays(rt: HostRuntime) {
+    let Some(test) = read(&rt, TYPES) else {
+        assert!(rt; false);
+        return;
+    };
+    let words = [
+        Value::Number(0x007f_fe01),
+        Value::Number(0),
+        Value::Number(0xffff),
+        Value::Address(4),
+    ];
+    assert!(rt; test.words.as_slice() == words.as_slice());
+    let start = RegisterStart {
+        register: 6,
+        value: Value::Address(8),
+    };
+    assert!(rt; starts(&test, 0, &[start]));
+    let address = LitmusStep::Constant {
+        register: 7,
+        value: 0x8000_0002,
+    };
+    assert!(rt; does(&test, 0, &[address]));
+    let second = Observed::Location(1);
+    assert!(rt; test.observed.as_slice() == [second].as_slice());
+    let byte = type_of(test.locations.as_slice(), second);
+    assert!(rt; byte.width == Width::Byte && byte.is_signed);
+    match beginning_at(test.locations.as_slice(), 4) {
+        Some(last) => assert!(rt; last.name.as_slice() == b"b".as_slice() && last.begin == 0),
+        None => assert!(rt; false),
+    }
+}
+
+#[test]
+fn narrows_as_a_store_does(rt: HostRuntime) {
+    assert!(rt; narrowed(Width::Byte, 0xffff_fffe) == 0xfe);
+    assert!(rt; narrowed(Width::Half, 0x1234_5678) == 0x5678);
+    assert!(rt; narrowed(Width::Word, 0xffff_fffe) == 0xffff_fffe);
 }
 
 /// A test of sixteen harts, of which the last one has an instruction.

@@ -6,7 +6,7 @@ ghost use Rattle.rv_instr.specs.Table.{IsInstructionInRange};
 use arrayvec::ArrayString;
 use litmus_cycles::{MemoryEvent, Relation};
 use litmus_runs::word_of;
-use litmus_tests::{LitmusStep, LitmusTest, Value};
+use litmus_tests::{LitmusStep, LitmusTest, Location, Value, beginning_at};
 use rv_instr::Instr;
 use std::io;
 use std::io::Write;
@@ -32,29 +32,43 @@ pub(crate) fn write_event_name<W: Write>(index: usize, out: &mut W) -> io::Resul
     Ok(())
 }
 
+/// Writes the name of a word of the locations: `x`, and `x[1]` where an element of an array begins it.
 pub(crate) fn write_location<W: Write>(
     test: &LitmusTest,
-    location: usize,
+    word: usize,
     out: &mut W,
 ) -> io::Result<()> {
-    match test.locations.get(location) {
-        Some(found) => out.write_all(found.name.as_slice()),
-        None => write!(out, "{location}"),
+    let Some(found) = location_in(test, word) else {
+        return write!(out, "{word}");
+    };
+    out.write_all(found.name.as_slice())?;
+    match found.element {
+        Some(element) => write!(out, "[{}]", element.index),
+        None => Ok(()),
     }
 }
 
-/// Writes a number in decimal; the name of a location where it is its address.
+/// The location that begins a word.
+fn location_in(test: &LitmusTest, word: usize) -> Option<&Location> {
+    beginning_at(test.locations.as_slice(), word.saturating_mul(4))
+}
+
+/// Writes a number in decimal; where it is an address in the locations, as the name of what is there and how many bytes
+/// behind its begin.
 pub(crate) fn write_number<W: Write>(
     test: &LitmusTest,
     number: u32,
     out: &mut W,
 ) -> io::Result<()> {
-    for location in 0..test.locations.len() {
-        if word_of(Value::Address(location)) == number {
-            return write_location(test, location, out);
-        }
+    let byte = number.wrapping_sub(word_of(Value::Address(0))) as usize;
+    let Some(found) = location_in(test, byte / 4) else {
+        return write!(out, "{number}");
+    };
+    out.write_all(found.name.as_slice())?;
+    match byte.saturating_sub(found.begin) {
+        0 => Ok(()),
+        offset => write!(out, "+{offset}"),
     }
-    write!(out, "{number}")
 }
 
 /// Writes what an event does: `R x 0`, `W x 1`, `RW x 0 1` for a read and a write at once, and `F x` for a

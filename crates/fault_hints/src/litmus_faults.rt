@@ -65,6 +65,10 @@ fn add_further(one: &FaultAt, hint: &mut Hint, alloc: Global) -> Result<(), Allo
 fn other_of(one: &FaultAt) -> Option<&'static str> {
     match one.fault {
         Fault::LinkRegister => Some("j and the label: a test has no addresses of code"),
+        Fault::NoElement => Some("an index or an offset inside: both count from 0"),
+        Fault::WholeArray => Some("one of its elements, as x[0]"),
+        Fault::NarrowAddress => Some("a number, or a location of 32 bits: an address has as many"),
+        Fault::OtherSize => Some("the type that the location has, before the *"),
         _ => in_place_of(one.word.as_str()),
     }
 }

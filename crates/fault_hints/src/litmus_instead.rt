@@ -13,7 +13,7 @@ fn of_name(word: &str) -> Option<&'static str> {
     Some(match word {
         "ecall" | "ebreak" => "a hart ends behind its last instruction, without one",
         "fence.i" => "fence: a test writes no code",
-        "auipc" => "a number by li, or an address by a start, as 0:x6=x",
+        "auipc" => "a number by li, or an address by la",
         "jalr" | "jr" | "ret" | "call" | "tail" => "j and a label: a test has no addresses of code",
         "ld" | "lwu" => "lw: registers have 32 bits",
         "sd" => "sw: registers have 32 bits",

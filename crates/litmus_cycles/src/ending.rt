@@ -2,7 +2,7 @@
 
 use crate::event::MemoryEvent;
 use litmus_runs::{AllRuns, initial_number, word_of};
-use litmus_tests::{Condition, LitmusTest, Observed, Term};
+use litmus_tests::{Condition, LitmusTest, Location, Observed, Term, narrowed};
 use numbers::Reg;
 
 /// The runs that the first harts have chosen, and what they have written in coherence order, once that is chosen.
@@ -44,9 +44,9 @@ impl Ending<'_, '_, '_, '_> {
     fn meets_term(&self, term: &Term) -> Option<bool> {
         let found = match term.observed {
             Observed::Register { hart, register } => self.register(hart, register)?,
-            Observed::Location(location) => self.last_number(location)?,
+            Observed::Location(location) => self.located_number(location)?,
         };
-        Some(found == word_of(term.value))
+        Some(found == narrowed(term.width, word_of(term.value)))
     }
 
     fn register(&self, hart: u8, register: Reg) -> Option<u32> {
@@ -55,12 +55,31 @@ impl Ending<'_, '_, '_, '_> {
         run.registers.get(usize::from(register)).copied()
     }
 
-    fn last_number(&self, location: usize) -> Option<u32> {
-        match last_write(self.events?, location) {
+    /// The number that a location has at the end, or an element.
+    fn located_number(&self, index: usize) -> Option<u32> {
+        let location = self.test.locations.get(index)?;
+        let word = self.last_word(location.byte / 4)?;
+        Some(part_of(word, location))
+    }
+
+    /// The number that a word of the locations has at the end.
+    fn last_word(&self, word: usize) -> Option<u32> {
+        match last_write(self.events?, word) {
             Some(number) => Some(number),
-            None => initial_number(self.test, location),
+            None => initial_number(self.test, word),
         }
     }
+}
+
+/// The number that a location has in its word: the lowest byte stands first.
+fn part_of(word: u32, location: &Location) -> u32 {
+    let bytes = match location.byte % 4 {
+        0 => word,
+        1 => word / 0x100,
+        2 => word / 0x1_0000,
+        _ => word / 0x100_0000,
+    };
+    narrowed(location.number_type.width, bytes)
 }
 
 /// What the write of a location that is last in coherence order writes.

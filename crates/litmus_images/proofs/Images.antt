@@ -8,7 +8,7 @@ use Rattle.rv_instr.specs.declared.instr.Instr.{Instr}
 use Rattle.elf_image.specs.Image.{ProgramSegment, ProgramImage, IsWellFormed as IsImage, ram_start}
 use Rattle.elf_image.specs.Image.{code_segment, code_start, code_size}
 use Rattle.elf_image.specs.Written.{word_bytes}
-use Rattle.litmus_tests.specs.declared.test.{LitmusTest.LitmusTest, Location.Location}
+use Rattle.litmus_tests.specs.declared.{test.LitmusTest.LitmusTest, value.Value.Value}
 use Rattle.litmus_tests.specs.{WellFormed.IsWellFormed, Conditions.number_of}
 use Rattle.litmus_images.specs.Image.{code_begin, initial_words, locations_segment, litmus_image, SpellEach, IsSpelled}
 use Rattle.litmus_images.specs.{Image.IsLitmusImage, Code.code_of}
@@ -33,17 +33,17 @@ spelled_length bytes code spelled =
     let words_are = each_length spelled.words code spelled.spelled in omega (arith, laid, bytes_are, words_are)
 
 -- the segments
-pub no_segment : (locations : List Location) → length locations ≡ 0 → locations_segment locations ≡ []
+pub no_segment : (values : List Value) → length values ≡ 0 → locations_segment values ≡ []
 unfolding locations_segment
 no_segment [] none = refl
-no_segment (location ∷ others) none = absurd (omega (arith, none))
+no_segment (value ∷ others) none = absurd (omega (arith, none))
 
-pub one_segment : (locations : List Location) → 0 < length locations
-    → locations_segment locations
-    ≡ record { address = ram_start; bytes = flat_map word_bytes (initial_words locations); flags = 6 } ∷ []
+pub one_segment : (values : List Value) → 0 < length values
+    → locations_segment values
+    ≡ record { address = ram_start; bytes = flat_map word_bytes (initial_words values); flags = 6 } ∷ []
 unfolding locations_segment
 one_segment [] some = absurd (omega (arith, some))
-one_segment (location ∷ others) some = refl
+one_segment (value ∷ others) some = refl
 
 -- both kinds of image
 abbrev data_part : List ℕ → ProgramSegment
@@ -110,20 +110,20 @@ with_data bytes code there short some few whole = record {
   entry_in_code = entry_inside (length code) some;
 }
 
-with_locations : (locations : List Location) (code : List ℕ) → length locations ≤ 64 → 0 < length code
+with_locations : (values : List Value) (code : List ℕ) → length values ≤ 64 → 0 < length code
     → length code ≤ 65280 → length code % 4 ≡ 0
     → IsImage (record {
       ram = 65536;
       entry = code_begin;
-      segments = locations_segment locations ++ code_part code ∷ [];
+      segments = locations_segment values ++ code_part code ∷ [];
     })
 unfolding locations_segment
 with_locations [] code short some few whole = with_code code some few whole
-with_locations (location ∷ others) code short some few whole =
-    let words = initial_words (location ∷ others) in
+with_locations (value ∷ others) code short some few whole =
+    let words = initial_words (value ∷ others) in
     let bytes = bytes_length words in
-    let count : length words ≡ length (location ∷ others) =
-    length-map (location ∷ others) (λ (l : Location). number_of l.initial) in
+    let count : length words ≡ length (value ∷ others) =
+    length-map (value ∷ others) number_of in
     with_data (flat_map word_bytes words) code (omega (arith, bytes, count))
     (omega (arith, bytes, count)) some few whole
 
@@ -134,6 +134,6 @@ well_formed test image sound is =
     let bytes = spelled_length is.code (code_of test) is.spelled in
     let size = code_length test sound in
     subst IsImage (sym is.made)
-    (with_locations test.locations.items is.code sound.locations (omega (arith, bytes, size.0))
+    (with_locations test.words.items is.code sound.words (omega (arith, bytes, size.0))
     (omega (arith, bytes, size.1))
     (omega (arith, bytes)))

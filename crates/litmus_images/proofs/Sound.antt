@@ -3,13 +3,12 @@ use Rattle.std.proofs.Common.{ℕ, ◌≤◌, length, All, arith}
 use Rattle.std.proofs.lemmas.List.Elements.{All-weaker}
 use Rattle.litmus_tests.specs.declared.value.Value.{Value}
 use Rattle.litmus_tests.specs.declared.value.Value.TheVariants.{Number, Address}
-use Rattle.litmus_tests.specs.declared.test.{LitmusTest.LitmusTest, Location.Location, RegisterStart.RegisterStart}
-use Rattle.litmus_tests.specs.declared.test.Thread.{Thread}
+use Rattle.litmus_tests.specs.declared.test.{LitmusTest.LitmusTest, RegisterStart.RegisterStart, Thread.Thread}
 use Rattle.litmus_tests.specs.WellFormed.{IsValue, IsStart, IsThread, IsWellFormed}
 
-pub value_sound : (locations : ℕ) → locations ≤ 64 → (value : Value) → IsValue locations value → IsValue 64 value
-value_sound locations few (Number number) sound = tt
-value_sound locations few (Address index) sound = omega arith
+pub value_sound : (words : ℕ) → words ≤ 64 → (value : Value) → IsValue words value → IsValue 64 value
+value_sound words few (Number number) sound = tt
+value_sound words few (Address byte) sound = omega arith
 
 start_sound : (locations : ℕ) → locations ≤ 64 → (start : RegisterStart) → IsStart locations start → IsStart 64 start
 start_sound locations few start sound = (sound.0, sound.1, value_sound locations few start.value sound.2)
@@ -24,15 +23,11 @@ thread_sound locations few thread sound = record {
 
 pub threads_sound : (test : LitmusTest) → IsWellFormed test → All (IsThread 64) test.threads.items
 threads_sound test sound =
-    let locations = length test.locations.items in
-    All-weaker (IsThread locations) (IsThread 64) (thread_sound locations sound.locations) test.threads.items
+    let words = length test.words.items in
+    All-weaker (IsThread words) (IsThread 64) (thread_sound words sound.words) test.threads.items
     sound.threads
 
-pub initials_sound : (test : LitmusTest) → IsWellFormed test
-    → All (λ location. IsValue 64 location.initial) test.locations.items
+pub initials_sound : (test : LitmusTest) → IsWellFormed test → All (IsValue 64) test.words.items
 initials_sound test sound =
-    let locations = length test.locations.items in
-    All-weaker (λ location. IsValue locations location.initial) (λ location. IsValue 64 location.initial)
-    (λ (location : Location) (is : IsValue locations location.initial).
-    value_sound locations sound.locations location.initial is)
-    test.locations.items sound.initials
+    let words = length test.words.items in
+    All-weaker (IsValue words) (IsValue 64) (value_sound words sound.words) test.words.items sound.initials

@@ -3,7 +3,7 @@ use Rattle.std.specs.Prelude.{◌≡◌, ℕ, ◌+◌, ◌^◌, ◌<◌, List, [
 use Rattle.rv_instr.specs.{declared.instr.Instr.Instr, Table.Spells}
 use Rattle.elf_image.specs.Image.{ProgramImage, ProgramSegment, ram_start}
 use Rattle.elf_image.specs.Written.{word_bytes}
-use Rattle.litmus_tests.specs.declared.test.{LitmusTest.LitmusTest, Location.Location}
+use Rattle.litmus_tests.specs.declared.{test.LitmusTest.LitmusTest, value.Value.Value}
 use Rattle.litmus_tests.specs.Conditions.{number_of}
 use Rattle.litmus_images.specs.Code.{code_of}
 
@@ -12,16 +12,16 @@ abbrev pub code_begin : ℕ
 code_begin = ram_start + 256
 
 -- The numbers that the locations' words hold at the start.
-abbrev pub initial_words : List Location → List ℕ
-initial_words locations = map (λ l. number_of l.initial) locations
+abbrev pub initial_words : List Value → List ℕ
+initial_words values = map number_of values
 
--- The locations are readable and writable words from the start of RAM on, each with its initial value; no segment
--- where there is none.
-unfoldable pub locations_segment : List Location → List ProgramSegment
+-- The words of the locations are readable and writable, from the start of RAM on, each with its initial value; no
+-- segment where there is none.
+unfoldable pub locations_segment : List Value → List ProgramSegment
 locations_segment [] = []
-locations_segment (location ∷ others) = record {
+locations_segment (value ∷ others) = record {
   address = ram_start;
-  bytes = flat_map word_bytes (initial_words (location ∷ others));
+  bytes = flat_map word_bytes (initial_words (value ∷ others));
   flags = 6;
 } ∷ []
 
@@ -45,7 +45,7 @@ unfoldable pub litmus_image : LitmusTest → List ℕ → ProgramImage
 litmus_image test code = record {
   ram = 65536;
   entry = code_begin;
-  segments = locations_segment test.locations.items
+  segments = locations_segment test.words.items
       ++ record { address = code_begin; bytes = code; flags = 5 } ∷ [];
 }
 

@@ -1,22 +1,23 @@
 //! What values are as numbers, a number into a register, and distances between words.
 
-ghost use Rattle.std.specs.Prelude.{◌≡◌, ◌<◌, ◌≤◌, ◌++◌, OnOk};
+ghost use Rattle.std.specs.Prelude.{◌≡◌, ◌+◌, ◌*◌, ◌<◌, ◌≤◌, ◌++◌, OnOk};
 ghost use Rattle.litmus_images.specs.Words.{lower_part, upper_part, constant_words, distance};
 ghost use Rattle.litmus_images.specs.Words.{jump_reach};
 ghost use Rattle.litmus_tests.specs.Limits.{most_locations};
-ghost use Rattle.litmus_tests.specs.{Conditions.address_of, Conditions.number_of, WellFormed.IsValue};
+ghost use Rattle.elf_image.specs.Image.{ram_start};
+ghost use Rattle.litmus_tests.specs.{Conditions.number_of, WellFormed.IsValue};
 
 use elf_image::RAM_START;
 use litmus_tests::Value;
 use rv_instr::{ImmediateOp, Instr, Reg};
 use std::alloc::AllocError;
 
-/// The address of a location's word.
-pub(crate) fn address_of(index: usize) -> u32
-    requires { index < most_locations }
-    ensures { result ≡ address_of index }
+/// The address of a byte of the locations.
+fn address_at(byte: usize) -> u32
+    requires { byte < 4 * most_locations }
+    ensures { result ≡ ram_start + byte }
 {
-    RAM_START + 4 * index as u32
+    RAM_START + byte as u32
 }
 
 /// The number that a value is.
@@ -26,7 +27,7 @@ pub(crate) fn number_of(value: Value) -> u32
 {
     match value {
         Value::Number(number) => number,
-        Value::Address(index) => address_of(index),
+        Value::Address(byte) => address_at(byte),
     }
 }
 

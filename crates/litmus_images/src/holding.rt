@@ -1,15 +1,16 @@
 //! Whether the condition of a litmus test holds of an end of its image.
 
 ghost use Rattle.std.specs.Prelude.{◌≡◌, ◌<◌, ◌==◌, ◌&&◌, length, position, Some, slice_get};
-ghost use Rattle.litmus_tests.specs.WellFormed.{IsWellFormed, IsCondition};
-ghost use Rattle.litmus_tests.specs.Conditions.{holds};
+ghost use Rattle.litmus_tests.specs.WellFormed.{IsWellFormed, IsCondition, IsValue};
+ghost use Rattle.litmus_tests.specs.Limits.{most_locations};
+ghost use Rattle.litmus_tests.specs.Conditions.{holds, narrowed, number_of};
 ghost use Rattle.litmus_tests.specs.declared.condition.Observed.{Observed};
 ghost use Rattle.litmus_images.specs.Watching.{registers_observed, locations_observed};
 ghost use Rattle.litmus_images.specs.Watching.{number_at_place, final_state};
 
 use crate::constants::number_of;
 use crate::watching::{location_of, register_of};
-use litmus_tests::{Condition, LitmusTest, Observed};
+use litmus_tests::{Condition, LitmusTest, Observed, Term, narrowed};
 use numbers::Reg;
 use watched_outcomes::Outcome;
 
@@ -23,7 +24,7 @@ fn register_place(observed: &[Observed], hart: u8, register: Reg) -> Option<usiz
         .position(|watched| watched.hart == hart && watched.register == register)
 }
 
-/// The place of a location's word among those that are watched.
+/// The place of a location among those that are watched.
 fn location_place(observed: &[Observed], index: usize) -> Option<usize>
     ensures { result ≡ position (λ l. l == index) (locations_observed observed.now) }
 {
@@ -70,15 +71,24 @@ pub fn value_in(test: &LitmusTest, outcome: &Outcome, index: usize) -> u32
     number_in(test, outcome, test.observed[index])
 }
 
+/// Whether a term holds of an outcome.
+fn term_holds(term: Term, test: &LitmusTest, outcome: &Outcome) -> bool
+    requires { IsValue most_locations term.value }
+    ensures { result ≡ (final_state test.now outcome.now term.observed == narrowed term.width (number_of term.value)) }
+{
+    number_in(test, outcome, term.observed) == narrowed(term.width, number_of(term.value))
+}
+
 /// Whether a condition on what the test looks at holds of an outcome.
 fn condition_holds(condition: &Condition, test: &LitmusTest, outcome: &Outcome) -> bool
     requires test { IsWellFormed test.now }
-    requires condition { IsCondition (length test.now.locations.items) test.now.observed.items condition.now }
+    requires condition { IsCondition (length test.now.words.items) test.now.locations.items
+        test.now.observed.items condition.now }
     ensures { result ≡ holds (final_state test.now outcome.now) condition.now }
 {
     match condition {
         Condition::Always => true,
-        Condition::Holds(term) => number_in(test, outcome, term.observed) == number_of(term.value),
+        Condition::Holds(term) => term_holds(*term, test, outcome),
         Condition::Not(inner) => !condition_holds(inner, test, outcome),
         Condition::Both(first, second) => {
             condition_holds(first, test, outcome) && condition_holds(second, test, outcome)

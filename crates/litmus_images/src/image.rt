@@ -12,7 +12,7 @@ use crate::code::code_of;
 use crate::constants::number_of;
 use byteorder::{ByteOrder, LittleEndian};
 use elf_image::{Image, RAM_START, RamSize, Segment};
-use litmus_tests::{LitmusTest, Location};
+use litmus_tests::{LitmusTest, Value};
 use rv_decode::encode;
 use rv_instr::Instr;
 use std::alloc::{AllocError, Global};
@@ -41,13 +41,13 @@ fn words_of(code: &[Instr], alloc: Global) -> Result<Vec<u32>, AllocError>
 }
 
 /// The numbers that the locations' words hold at the start.
-fn initial_words(locations: &[Location], alloc: Global) -> Result<Vec<u32>, AllocError>
-    requires { All (λ location. IsValue most_locations location.initial) locations.now }
-    ensures { IfOk result (λ words. words.items ≡ initial_words locations.now) }
+fn initial_words(values: &[Value], alloc: Global) -> Result<Vec<u32>, AllocError>
+    requires { All (IsValue most_locations) values.now }
+    ensures { IfOk result (λ words. words.items ≡ initial_words values.now) }
 {
     let mut words = Vec::new(alloc);
-    for location in locations {
-        words.push(number_of(location.initial))?;
+    for value in values {
+        words.push(number_of(*value))?;
     }
     Ok(words)
 }
@@ -79,16 +79,16 @@ fn code_bytes(test: &LitmusTest, alloc: Global) -> Result<Vec<u8>, AllocError>
 /// Appends the segment of the locations, if there are any.
 fn push_locations(
     segments: &mut Vec<Segment>,
-    locations: &[Location],
+    values: &[Value],
     alloc: Global,
 ) -> Result<(), AllocError>
-    requires { All (λ location. IsValue most_locations location.initial) locations.now }
-    ensures { OnOk result (segments.new.items ≡ segments.old.items ++ locations_segment locations.now) }
+    requires { All (IsValue most_locations) values.now }
+    ensures { OnOk result (segments.new.items ≡ segments.old.items ++ locations_segment values.now) }
 {
-    if locations.is_empty() {
+    if values.is_empty() {
         return Ok(());
     }
-    let words = initial_words(locations, alloc)?;
+    let words = initial_words(values, alloc)?;
     let bytes = bytes_of(&words, alloc)?;
     segments.push(Segment::new(RAM_START, bytes, DATA))?;
     Ok(())
@@ -102,7 +102,7 @@ fn segments_of(test: &LitmusTest, alloc: Global) -> Result<Vec<Segment>, AllocEr
 {
     let bytes = code_bytes(test, alloc)?;
     let mut segments = Vec::new(alloc);
-    push_locations(&mut segments, &test.locations, alloc)?;
+    push_locations(&mut segments, &test.words, alloc)?;
     segments.push(Segment::new(CODE_BEGIN, bytes, CODE))?;
     Ok(segments)
 }

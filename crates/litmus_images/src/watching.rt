@@ -1,14 +1,14 @@
 //! What is watched in the ends of a litmus test.
 
-ghost use Rattle.std.specs.Prelude.{◌≡◌, ◌≤◌, ◌<◌, length, All, IfSome};
+ghost use Rattle.std.specs.Prelude.{◌≡◌, ◌≤◌, length};
 ghost use Rattle.litmus_tests.specs.WellFormed.{IsWellFormed};
-ghost use Rattle.litmus_tests.specs.Limits.{most_locations, most_observed};
+ghost use Rattle.litmus_tests.specs.Limits.{most_observed};
 ghost use Rattle.litmus_images.specs.Watching.{register_of, location_of, registers_observed};
-ghost use Rattle.litmus_images.specs.Watching.{words_observed};
+ghost use Rattle.litmus_images.specs.Watching.{bytes_watched, cell_of, words_observed};
 
-use crate::constants::address_of;
 use arrayvec::ArrayVec;
-use litmus_tests::{LitmusTest, Observed};
+use elf_image::RAM_START;
+use litmus_tests::{LitmusTest, Location, Observed};
 use watched_outcomes::{MOST_WATCHED, Watch, WatchedBytes, WatchedRegister, Width};
 
 /// How many harts the test has: 1 to `MOST_HARTS`.
@@ -39,14 +39,14 @@ pub(crate) fn location_of(observed: Observed) -> Option<usize>
     }
 }
 
-/// The registers and the words that tell the final states of the test apart, each in the test's order.
+/// The registers and the words, halves and bytes that tell the final states of the test apart, each in the test's order.
 pub fn watch_of(test: &LitmusTest) -> Watch
     requires { IsWellFormed test.now }
     ensures registers { result.registers.items ≡ registers_observed test.now.observed.items }
-    ensures words { result.words.items ≡ words_observed test.now.observed.items }
+    ensures words { result.words.items ≡ words_observed test.now.locations.items test.now.observed.items }
 {
     let registers = registers_watched(&test.observed);
-    let words = words_watched(&test.observed);
+    let words = words_watched(&test.locations, &test.observed);
     Watch { registers, words }
 }
 
@@ -65,21 +65,44 @@ fn registers_watched(observed: &[Observed]) -> ArrayVec<WatchedRegister, MOST_WA
     registers
 }
 
-/// The words of the locations that are looked at, in order.
-fn words_watched(observed: &[Observed]) -> ArrayVec<WatchedBytes, MOST_WATCHED>
-    requires few { length observed.now ≤ most_observed }
-    requires there { All (λ each. IfSome (location_of each) (λ index. index < most_locations)) observed.now }
-    ensures { result.items ≡ words_observed observed.now }
+/// The bytes of the locations that are looked at, in order.
+fn words_watched(
+    locations: &[Location],
+    observed: &[Observed],
+) -> ArrayVec<WatchedBytes, MOST_WATCHED>
+    requires { length observed.now ≤ most_observed }
+    ensures { result.items ≡ words_observed locations.now observed.now }
 {
     let mut words = ArrayVec::<WatchedBytes, MOST_WATCHED>::new();
     for each in observed {
         match location_of(*each) {
-            Some(index) => words.push(WatchedBytes {
-                address: address_of(index),
-                width: Width::Word,
-            }),
+            Some(index) => words.push(cell_of(locations, index)),
             None => {}
         }
     }
     words
+}
+
+/// The bytes of the location with this index.
+fn cell_of(locations: &[Location], index: usize) -> WatchedBytes
+    ensures { result ≡ cell_of locations.now index }
+{
+    match locations.get(index) {
+        Some(location) => bytes_watched(location),
+        None => WatchedBytes {
+            address: RAM_START,
+            width: Width::Word,
+        },
+    }
+}
+
+/// The bytes of a location.
+fn bytes_watched(location: &Location) -> WatchedBytes
+    ensures { result ≡ bytes_watched location.now }
+{
+    let address = RAM_START as u128 + location.byte as u128;
+    WatchedBytes {
+        address: (address % 0x1_0000_0000) as u32,
+        width: location.number_type.width,
+    }
 }

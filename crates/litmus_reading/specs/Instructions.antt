@@ -20,7 +20,8 @@ use Rattle.litmus_words.specs.declared.word.Token.TheVariants.{Register, Mark}
 use Rattle.litmus_words.specs.declared.word.Token.TheVariants.{Mnemonic as name_token}
 use Rattle.litmus_words.specs.declared.word.Mark.TheVariants as mark
 use Rattle.litmus_words.specs.declared.word.Word.{Word}
-use Rattle.litmus_words.specs.Parts.{SpellsInteger, SpellsNumber}
+use Rattle.litmus_words.specs.Parts.{SpellsInteger, SpellsNumber, SpellsAddress as SpellsByteAddress}
+use Rattle.litmus_tests.specs.{Conditions.number_of, declared.value.Value.TheVariants.Address}
 use Rattle.litmus_words.specs.Tokens.{Takes, tokens}
 
 -- `x5,x6` and `x5,x6,x7`.
@@ -103,6 +104,14 @@ pub record SpellsConstant (text : List Token) (register value : ℕ) : Type 0 wh
   pub spells : SpellsNumber number value
   pub spelled : text ≡ Register register ∷ Mark mark.Comma ∷ number
 
+-- `x5,x`: the address as a number.
+pub record SpellsLoadAddress (text : List Token) (register value : ℕ) : Type 0 where
+  pub address : List Token
+  pub byte : ℕ
+  pub spells : SpellsByteAddress address byte
+  pub number : value ≡ number_of (Address byte)
+  pub spelled : text ≡ Register register ∷ Mark mark.Comma ∷ address
+
 -- The operands of a row, and the instruction that it is with them.
 abbrev pub SpellsOperands : Row → List Token → Operands → Type 0
 SpellsOperands row_of.Lui text operands = SpellsUpper text operands.rd operands.upper
@@ -151,6 +160,7 @@ SpellsBranch mnemonic text written = ⊥
 abbrev pub SpellsWritten : Mnemonic → List Token → Written → Type 0
 SpellsWritten mnemonic text (Straight instruction) = SpellsStraight mnemonic text instruction
 SpellsWritten name.Constant text (Constant register value) = SpellsConstant text register value
+SpellsWritten name.LoadAddress text (Constant register value) = SpellsLoadAddress text register value
 SpellsWritten mnemonic text (Constant register value) = ⊥
 SpellsWritten name.Fence text (Fence (Sets before after)) = Unit {0}
 SpellsWritten name.TotalStoreOrderFence text (Fence TotalStoreOrder) = text ≡ []

@@ -13,8 +13,9 @@ ghost use Rattle.litmus_reading.specs.Grammar.{
 ghost use Rattle.litmus_words.specs.Parts.{ObservedTaken};
 ghost use Rattle.litmus_tests.specs.declared.condition.Condition.{Holds};
 
+use crate::fitting::{check_width, width_at};
 use litmus_tests::test::MOST_TERMS;
-use litmus_tests::{Condition, Observed, Term, Value};
+use litmus_tests::{Condition, Observed, Term};
 use litmus_words::{
     Fault, Mark, Stop, Token, Word, behind_mark, location, mark, next, register_but_zero, start_of,
     value,
@@ -29,15 +30,14 @@ pub(crate) struct Asked {
     pub alloc: Global,
 }
 
-/// What has been read of a condition that stands alone: how many terms and `true`, and what the terms look at.
+/// What has been read of a condition: how many terms and `true`.
 #[derive(Drop)]
 pub(crate) struct Leaves {
     pub count: usize,
-    pub observed: Vec<Observed>,
 }
 
-/// Reads conditions with `<=>` between, whose leaves go behind `leaves`; `room` says how many levels may be nested in
-/// it.
+/// Reads conditions with `<=>` between, whose leaves are counted in `leaves`; `room` says how many levels may be nested
+/// in it.
 #[cycle(condition)]
 pub(crate) fn read_condition<'a>(
     asked: &Asked,
@@ -171,18 +171,29 @@ fn read_term<'a>(
     ensures { IfOk result (λ p. ConditionTaken 0 words.now p.0 p.1.now) }
 {
     let (observed, rest) = read_observed(asked, words)?;
+    let width = width_at(words);
     if let Some(behind) = behind_mark(rest, Mark::Differs) {
+        check_width(behind, width, asked.end)?;
         let (other, rest) = value(behind, asked.end)?;
         count_leaf(asked, words, leaves)?;
-        leaves.observed.push(observed)?;
-        let whole = differing(observed, other, asked.alloc)?;
+        let term = Term {
+            observed,
+            value: other,
+            width,
+        };
+        let whole = differing(term, asked.alloc)?;
         return Ok((whole, rest));
     }
     let rest = mark(rest, Mark::Equals, asked.end)?;
+    check_width(rest, width, asked.end)?;
     let (value, rest) = value(rest, asked.end)?;
     count_leaf(asked, words, leaves)?;
-    leaves.observed.push(observed)?;
-    Ok((Condition::Holds(Term { observed, value }), rest))
+    let term = Term {
+        observed,
+        value,
+        width,
+    };
+    Ok((Condition::Holds(term), rest))
 }
 
 /// Counts one more, `true` too: what follows a condition by recursion goes as deep as there are.
@@ -194,7 +205,7 @@ fn count_leaf(asked: &Asked, words: &[Word], leaves: &mut Leaves) -> Result<(), 
     Ok(())
 }
 
-/// Reads what is looked at: `0:x7`, `x` or `[x]`.
+/// Reads what is looked at: `0:x7`, `x`, `[x]` or `x[1]`.
 pub(crate) fn read_observed<'a>(
     asked: &Asked,
     words: &'a [Word],
@@ -215,11 +226,11 @@ pub(crate) fn read_observed<'a>(
     Ok((Observed::Register { hart, register }, rest))
 }
 
-/// That what is looked at doesn't hold this value.
-fn differing(observed: Observed, value: Value, alloc: Global) -> Result<Condition, AllocError>
-    ensures { IfOk result (IsNegation (Holds (record { observed = observed; value = value }))) }
+/// That a term doesn't hold.
+fn differing(term: Term, alloc: Global) -> Result<Condition, AllocError>
+    ensures { IfOk result (IsNegation (Holds term)) }
 {
-    negation(Condition::Holds(Term { observed, value }), alloc)
+    negation(Condition::Holds(term), alloc)
 }
 
 fn negation(inner: Condition, alloc: Global) -> Result<Condition, AllocError>

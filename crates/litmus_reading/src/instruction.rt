@@ -8,12 +8,17 @@ ghost use Rattle.rv_instr.specs.declared.instr.Instr.TheVariants as instr;
 ghost use Rattle.rv_instr.specs.declared.instr.ImmediateOp.TheVariants as immediate_op;
 ghost use Rattle.rv_instr.specs.declared.instr.BranchOp.TheVariants.{Beq};
 ghost use Rattle.litmus_reading.specs.declared.instruction.Written.TheVariants.{Branch};
+ghost use Rattle.litmus_tests.specs.Conditions.{number_of};
+ghost use Rattle.litmus_tests.specs.declared.value.Value.TheVariants.{Address};
 
 use crate::fences::{read_fence, total_store_order_fence};
 use crate::operands::{last_label, operands_of, register_label, registers_label, two_registers};
+use elf_image::RAM_START;
 use litmus_tests::Fence;
+use litmus_tests::test::MOST_LOCATIONS;
 use litmus_words::{
-    Fault, Mark, Mnemonic, Stop, Token, Word, mark, next, nothing, register, start_of, word_number,
+    Fault, Mark, Mnemonic, Stop, Token, Word, address, mark, next, nothing, register, start_of,
+    word_number,
 };
 use numbers::Reg;
 use rv_instr::{BranchOp, ImmediateOp, Instr};
@@ -46,6 +51,7 @@ pub(crate) fn read_instruction(text: &[u8], words: &[Word], end: usize) -> Resul
     };
     match mnemonic {
         Mnemonic::Constant => constant(operands, end),
+        Mnemonic::LoadAddress => load_address(operands, end),
         Mnemonic::Branch(op) => branch(op, operands, end),
         Mnemonic::SwappedBranch(op) => swapped_branch(op, operands, end),
         Mnemonic::BranchZero(op) => branch_zero(op, operands, end),
@@ -70,6 +76,28 @@ fn constant(operands: &[Word], end: usize) -> Result<Written, Stop>
     let (value, rest) = word_number(rest, end)?;
     nothing(rest, Fault::NotOfSubset)?;
     Ok(Written::Constant { register, value })
+}
+
+/// `la x5,x`: as `li` of the address.
+fn load_address(operands: &[Word], end: usize) -> Result<Written, Stop>
+    ensures { IfOk result (SpellsWritten name.LoadAddress (tokens operands.now)) }
+{
+    let (register, rest) = register(operands, end)?;
+    let rest = mark(rest, Mark::Comma, end)?;
+    let (byte, behind) = address(rest, end)?;
+    nothing(behind, Fault::NotOfSubset)?;
+    let value = address_of(byte, start_of(rest, end))?;
+    Ok(Written::Constant { register, value })
+}
+
+/// The address of a byte of the locations.
+fn address_of(byte: usize, at: usize) -> Result<u32, Stop>
+    ensures { IfOk result (λ value. value ≡ number_of (Address byte)) }
+{
+    if byte >= 4 * MOST_LOCATIONS {
+        return Err(Stop::at(at, Fault::NoElement));
+    }
+    Ok(RAM_START + byte as u32)
 }
 
 /// `bne x5,x6,L0`.
@@ -156,7 +184,7 @@ fn jump_to(label: Word) -> Written
     }
 }
 
-/// The instructions behind which the hart goes on, but for `li` and fences.
+/// The instructions behind which the hart goes on, but for `li`, `la` and fences.
 fn straight(mnemonic: Mnemonic, operands: &[Word], end: usize) -> Result<Instr, Stop>
     ensures { IfOk result (SpellsStraight mnemonic (tokens operands.now)) }
 {

@@ -3,10 +3,12 @@
 
 ghost use Rattle.std.specs.Prelude.{◌≡◌, ◌≤◌, true, length, sum_by, All};
 ghost use Rattle.numbers.specs.Sizes.{most_harts};
+ghost use Rattle.litmus_tests.specs.Limits.{most_locations};
 ghost use Rattle.rv_instr.specs.Table.{IsInstructionInRange, IsSigned};
 ghost use Rattle.litmus_tests.specs.WellFormed.{
   is_straight,
   IsCondition,
+  IsLocation,
   IsObserved,
   IsStart,
   IsStep,
@@ -20,6 +22,7 @@ ghost use Rattle.litmus_tests.specs.WellFormed.{
 use litmus_tests::test::{MOST_LOCATIONS, MOST_OBSERVED, MOST_STEPS, MOST_WORDS};
 use litmus_tests::{
     Condition, LitmusStep, LitmusTest, Location, Observed, RegisterStart, Term, Thread, Value,
+    type_of,
 };
 use numbers::sizes::HART_ROOM;
 use rv_instr::Instr;
@@ -31,48 +34,77 @@ const MOST_STARTS: usize = 31;
 pub(crate) fn makes_sense(test: &LitmusTest) -> bool
     ensures { result ≡ true → IsWellFormed test.now }
 {
-    let (harts, locations) = (test.threads.len(), test.locations.len());
-    if harts < 1 || harts > HART_ROOM || locations > MOST_LOCATIONS {
+    let (harts, words) = (test.threads.len(), test.words.len());
+    if harts < 1 || harts > HART_ROOM || words > MOST_LOCATIONS {
         return false;
     }
     if test.observed.len() > MOST_OBSERVED {
         return false;
     }
-    if !are_initials(test.locations.as_slice()) {
+    if !are_initials(test.words.as_slice()) {
         return false;
     }
-    if !are_threads(test.threads.as_slice(), locations) {
+    if !are_locations(test.locations.as_slice(), words) {
         return false;
     }
-    if !are_short(test.threads.as_slice(), locations) {
+    if !are_threads(test.threads.as_slice(), words) {
         return false;
     }
-    if !are_observed(test.observed.as_slice(), harts, locations) {
+    if !are_short(test.threads.as_slice(), words) {
         return false;
     }
-    if !is_condition(&test.filter, locations, test.observed.as_slice()) {
+    if !are_observed(test.observed.as_slice(), harts, test.locations.len()) {
         return false;
     }
-    is_condition(&test.condition, locations, test.observed.as_slice())
+    let locations = test.locations.as_slice();
+    if !is_condition(&test.filter, words, locations, test.observed.as_slice()) {
+        return false;
+    }
+    is_condition(&test.condition, words, locations, test.observed.as_slice())
 }
 
-fn are_initials(locations: &[Location]) -> bool
-    ensures { result ≡ true
-        → All (λ location. IsValue (length locations.now) location.initial) locations.now }
+fn are_initials(words: &[Value]) -> bool
+    requires { length words.now ≤ most_locations }
+    ensures { result ≡ true → All (IsValue (length words.now)) words.now }
 {
-    for location in locations {
-        if !is_value(location.initial, locations.len()) {
+    for word in words {
+        if !is_value(*word, words.len()) {
             return false;
         }
     }
     true
 }
 
-fn are_threads(threads: &[Thread], locations: usize) -> bool
-    ensures { result ≡ true → All (IsThread locations) threads.now }
+fn are_locations(locations: &[Location], words: usize) -> bool
+    requires { words ≤ most_locations }
+    ensures { result ≡ true → All (IsLocation words) locations.now }
+{
+    for location in locations {
+        if !is_location(location, words) {
+            return false;
+        }
+    }
+    true
+}
+
+fn is_location(location: &Location, words: usize) -> bool
+    requires { words ≤ most_locations }
+    ensures { result ≡ true → IsLocation words location.now }
+{
+    let size = usize::from(location.number_type.width.bytes());
+    let room = 4 * words;
+    if location.byte >= room {
+        return false;
+    }
+    size <= room - location.byte
+}
+
+fn are_threads(threads: &[Thread], words: usize) -> bool
+    requires { words ≤ most_locations }
+    ensures { result ≡ true → All (IsThread words) threads.now }
 {
     for thread in threads {
-        if !is_thread(thread, locations) {
+        if !is_thread(thread, words) {
             return false;
         }
     }
@@ -103,23 +135,25 @@ fn are_observed(observed: &[Observed], harts: usize, locations: usize) -> bool
     true
 }
 
-fn is_thread(thread: &Thread, locations: usize) -> bool
-    ensures { result ≡ true → IsThread locations thread.now }
+fn is_thread(thread: &Thread, words: usize) -> bool
+    requires { words ≤ most_locations }
+    ensures { result ≡ true → IsThread words thread.now }
 {
     if thread.starts.len() > MOST_STARTS || thread.steps.len() > MOST_STEPS {
         return false;
     }
-    if !are_starts(thread.starts.as_slice(), locations) {
+    if !are_starts(thread.starts.as_slice(), words) {
         return false;
     }
     are_steps(thread.steps.as_slice())
 }
 
-fn are_starts(starts: &[RegisterStart], locations: usize) -> bool
-    ensures { result ≡ true → All (IsStart locations) starts.now }
+fn are_starts(starts: &[RegisterStart], words: usize) -> bool
+    requires { words ≤ most_locations }
+    ensures { result ≡ true → All (IsStart words) starts.now }
 {
     for start in starts {
-        if !is_start(*start, locations) {
+        if !is_start(*start, words) {
             return false;
         }
     }
@@ -137,55 +171,66 @@ fn are_steps(steps: &[LitmusStep]) -> bool
     true
 }
 
-fn is_condition(condition: &Condition, locations: usize, observed: &[Observed]) -> bool
-    ensures { result ≡ true → IsCondition locations observed.now condition.now }
+fn is_condition(
+    condition: &Condition,
+    words: usize,
+    locations: &[Location],
+    observed: &[Observed],
+) -> bool
+    requires { words ≤ most_locations }
+    ensures { result ≡ true → IsCondition words locations.now observed.now condition.now }
 {
     match condition {
         Condition::Always => true,
-        Condition::Holds(term) => is_term(*term, locations, observed),
-        Condition::Not(inner) => is_condition(inner, locations, observed),
+        Condition::Holds(term) => is_term(*term, words, locations, observed),
+        Condition::Not(inner) => is_condition(inner, words, locations, observed),
         Condition::Both(left, right) => {
-            if !is_condition(left, locations, observed) {
+            if !is_condition(left, words, locations, observed) {
                 return false;
             }
-            is_condition(right, locations, observed)
+            is_condition(right, words, locations, observed)
         }
         Condition::Either(left, right) => {
-            if !is_condition(left, locations, observed) {
+            if !is_condition(left, words, locations, observed) {
                 return false;
             }
-            is_condition(right, locations, observed)
+            is_condition(right, words, locations, observed)
         }
         Condition::Implies(left, right) => {
-            if !is_condition(left, locations, observed) {
+            if !is_condition(left, words, locations, observed) {
                 return false;
             }
-            is_condition(right, locations, observed)
+            is_condition(right, words, locations, observed)
         }
         Condition::Equivalent(left, right) => {
-            if !is_condition(left, locations, observed) {
+            if !is_condition(left, words, locations, observed) {
                 return false;
             }
-            is_condition(right, locations, observed)
+            is_condition(right, words, locations, observed)
         }
     }
 }
 
-fn is_term(term: Term, locations: usize, observed: &[Observed]) -> bool
-    ensures { result ≡ true → IsTerm locations observed.now term }
+fn is_term(term: Term, words: usize, locations: &[Location], observed: &[Observed]) -> bool
+    requires { words ≤ most_locations }
+    ensures { result ≡ true → IsTerm words locations.now observed.now term }
 {
     if !observed.contains(&term.observed) {
         return false;
     }
-    is_value(term.value, locations)
+    if term.width != type_of(locations, term.observed).width {
+        return false;
+    }
+    is_value(term.value, words)
 }
 
-fn is_value(value: Value, locations: usize) -> bool
-    ensures { result ≡ true → IsValue locations value }
+fn is_value(value: Value, words: usize) -> bool
+    requires { words ≤ most_locations }
+    ensures { result ≡ true → IsValue words value }
 {
     match value {
         Value::Number(_) => true,
-        Value::Address(index) => index < locations,
+        Value::Address(byte) => byte < 4 * words,
     }
 }
 
@@ -200,13 +245,14 @@ fn is_observed(observed: Observed, harts: usize, locations: usize) -> bool
     }
 }
 
-fn is_start(start: RegisterStart, locations: usize) -> bool
-    ensures { result ≡ true → IsStart locations start }
+fn is_start(start: RegisterStart, words: usize) -> bool
+    requires { words ≤ most_locations }
+    ensures { result ≡ true → IsStart words start }
 {
     if start.register == 0 || start.register >= 32 {
         return false;
     }
-    is_value(start.value, locations)
+    is_value(start.value, words)
 }
 
 fn is_step(step: LitmusStep, steps: usize) -> bool

@@ -1,4 +1,4 @@
-//! The numbers that a read may find at each location.
+//! The numbers that a read may find at each word of the locations. What is called a location here is such a word.
 
 use crate::number::word_of;
 use litmus_tests::LitmusTest;
@@ -25,8 +25,8 @@ pub(crate) struct Known {
 impl Known {
     pub fn new(test: &LitmusTest, alloc: Global) -> Result<Known, AllocError> {
         let mut held = Vec::new(alloc);
-        for (location, found) in test.locations.iter().enumerate() {
-            let number = word_of(found.initial);
+        for (location, found) in test.words.iter().enumerate() {
+            let number = word_of(*found);
             held.push(Held { location, number })?;
         }
         Ok(Known {

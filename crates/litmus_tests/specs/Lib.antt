@@ -1,3 +1,4 @@
 pub mod Conditions
 pub mod Limits
+pub mod Locations
 pub mod WellFormed

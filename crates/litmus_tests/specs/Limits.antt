@@ -14,7 +14,7 @@ most_thread_words = 2 + 2 * 31 + 2 * most_steps
 abbrev pub most_words : ℕ
 most_words = 16000
 
--- locations, and what is looked at in a final state
+-- the words of all locations, and what is looked at in a final state
 abbrev pub most_locations : ℕ
 most_locations = 64
 

@@ -11,8 +11,9 @@ use Rattle.litmus_tests.specs.declared.step.LitmusStep.TheVariants.{Straight, Co
 use Rattle.litmus_tests.specs.declared.condition.{Observed.Observed, Term.Term}
 use Rattle.litmus_tests.specs.declared.condition.Observed.TheVariants as observed
 use Rattle.litmus_tests.specs.declared.condition.Condition.{Condition, Always, Holds, Not', Both', Either', Implies', Equivalent'}
-use Rattle.litmus_tests.specs.declared.test.{LitmusTest.LitmusTest, RegisterStart.RegisterStart}
-use Rattle.litmus_tests.specs.declared.test.{Thread.Thread, Location.Location}
+use Rattle.litmus_tests.specs.declared.test.{LitmusTest.LitmusTest, RegisterStart.RegisterStart, Thread.Thread}
+use Rattle.litmus_tests.specs.{declared.location.Location.Location, Locations.type_of}
+use Rattle.watched_outcomes.specs.Watching.{bytes_of}
 
 -- Behind the instruction the hart goes on with the next one, whatever its registers hold, and nothing that it
 -- computes depends on where it stands.
@@ -25,10 +26,14 @@ is_straight instr.Ecall = false
 is_straight instr.Ebreak = false
 is_straight instruction = true
 
--- The location that a value names is there; of so many.
+-- The byte that a value names is there; of the bytes of so many words.
 abbrev pub IsValue : ℕ → Value → Type 0
-IsValue locations (Number number) = Unit {0}
-IsValue locations (Address index) = index < locations
+IsValue words (Number number) = Unit {0}
+IsValue words (Address byte) = byte < 4 * words
+
+-- So are the bytes of a location.
+abbrev pub IsLocation : ℕ → Location → Type 0
+IsLocation words location = location.byte + bytes_of location.number_type.width ≤ 4 * words
 
 -- What is looked at is there.
 abbrev pub IsObserved : ℕ → ℕ → Observed → Type 0
@@ -43,10 +48,10 @@ IsStep steps (Branch op left right target) = (left < 32) × (right < 32) × (tar
 IsStep steps (Fence fence) = Unit {0}
 
 abbrev pub IsStart : ℕ → RegisterStart → Type 0
-IsStart locations start = (0 < start.register) × (start.register < 32) × IsValue locations start.value
+IsStart words start = (0 < start.register) × (start.register < 32) × IsValue words start.value
 
-pub record IsThread (locations : ℕ) (thread : Thread) : Type 0 where
-  pub starts : All (IsStart locations) thread.starts.items
+pub record IsThread (words : ℕ) (thread : Thread) : Type 0 where
+  pub starts : All (IsStart words) thread.starts.items
   pub few : length thread.starts.items ≤ 31
   pub steps : All (IsStep (length thread.steps.items)) thread.steps.items
   pub short : length thread.steps.items ≤ most_steps
@@ -62,30 +67,32 @@ step_length (Fence fence) = 1
 abbrev pub thread_length : Thread → ℕ
 thread_length thread = 2 + 2 * length thread.starts.items + sum_by step_length thread.steps.items
 
--- Each term of a condition is about something that tells final states apart.
-abbrev pub IsTerm : ℕ → List Observed → Term → Type 0
-IsTerm locations observed term = Contains observed term.observed × IsValue locations term.value
+-- Each term of a condition is about something that tells final states apart, and as wide as that.
+abbrev pub IsTerm : ℕ → List Location → List Observed → Term → Type 0
+IsTerm words locations observed term = Contains observed term.observed × IsValue words term.value
+    × (term.width ≡ (type_of locations term.observed).width)
 
-abbrev pub IsCondition : ℕ → List Observed → Condition → Type 0
-IsCondition locations observed Always = Unit {0}
-IsCondition locations observed (Holds term) = IsTerm locations observed term
-IsCondition locations observed (Not' p condition) = IsCondition locations observed condition
-IsCondition locations observed (Both' p first q second) =
-    IsCondition locations observed first × IsCondition locations observed second
-IsCondition locations observed (Either' p first q second) =
-    IsCondition locations observed first × IsCondition locations observed second
-IsCondition locations observed (Implies' p first q second) =
-    IsCondition locations observed first × IsCondition locations observed second
-IsCondition locations observed (Equivalent' p first q second) =
-    IsCondition locations observed first × IsCondition locations observed second
+abbrev pub IsCondition : ℕ → List Location → List Observed → Condition → Type 0
+IsCondition words locations observed Always = Unit {0}
+IsCondition words locations observed (Holds term) = IsTerm words locations observed term
+IsCondition words locations observed (Not' p condition) = IsCondition words locations observed condition
+IsCondition words locations observed (Both' p first q second) =
+    IsCondition words locations observed first × IsCondition words locations observed second
+IsCondition words locations observed (Either' p first q second) =
+    IsCondition words locations observed first × IsCondition words locations observed second
+IsCondition words locations observed (Implies' p first q second) =
+    IsCondition words locations observed first × IsCondition words locations observed second
+IsCondition words locations observed (Equivalent' p first q second) =
+    IsCondition words locations observed first × IsCondition words locations observed second
 
 pub record IsWellFormed (test : LitmusTest) : Type 0 where
   pub harts : (1 ≤ length test.threads.items) × (length test.threads.items ≤ most_harts)
-  pub locations : length test.locations.items ≤ most_locations
-  pub initials : All (λ location. IsValue (length test.locations.items) location.initial) test.locations.items
-  pub threads : All (IsThread (length test.locations.items)) test.threads.items
+  pub words : length test.words.items ≤ most_locations
+  pub initials : All (IsValue (length test.words.items)) test.words.items
+  pub locations : All (IsLocation (length test.words.items)) test.locations.items
+  pub threads : All (IsThread (length test.words.items)) test.threads.items
   pub short : sum_by thread_length test.threads.items ≤ most_words
-  pub condition : IsCondition (length test.locations.items) test.observed.items test.condition
-  pub filter : IsCondition (length test.locations.items) test.observed.items test.filter
+  pub condition : IsCondition (length test.words.items) test.locations.items test.observed.items test.condition
+  pub filter : IsCondition (length test.words.items) test.locations.items test.observed.items test.filter
   pub observed : All (IsObserved (length test.threads.items) (length test.locations.items)) test.observed.items
   pub few : length test.observed.items ≤ most_observed

@@ -3,6 +3,7 @@ ghost use Rattle.litmus_tests.specs.WellFormed.{step_length, thread_length};
 ghost use Rattle.litmus_tests.specs.Limits.{most_steps, most_thread_words};
 
 use crate::condition::{Condition, Observed, Quantifier};
+use crate::location::Location;
 use crate::step::LitmusStep;
 use crate::value::Value;
 use numbers::Reg;
@@ -17,7 +18,7 @@ pub const MOST_STEPS: usize = 500;
 /// that is short enough to be read has so many.
 pub const MOST_WORDS: usize = 16_000;
 
-/// How many locations a test has at most.
+/// How many words of memory the locations of a test have at most, each of them and each array its own.
 pub const MOST_LOCATIONS: usize = 64;
 
 /// How many registers, and how many locations, are looked at in a final state at most.
@@ -28,14 +29,6 @@ pub const MOST_OBSERVED: usize = 64;
 pub const MOST_TERMS: usize = 32;
 
 pub const MOST_NESTED: usize = 16;
-
-/// A word of memory with a name.
-#[derive(Drop)]
-pub struct Location {
-    /// A letter or `_`, then letters, digits and `_`.
-    pub name: Vec<u8>,
-    pub initial: Value,
-}
 
 /// A register and what it holds at the start. The others hold 0.
 #[derive(Clone, Copy, Debug, PartialEq, Eq, Drop)]
@@ -82,7 +75,9 @@ fn steps_length(steps: &[LitmusStep]) -> usize
 pub struct LitmusTest {
     /// What stands behind `RISCV`.
     pub name: Vec<u8>,
-    /// In the order in which the test names them first.
+    /// What the words of the locations hold at the start, one behind the other.
+    pub words: Vec<Value>,
+    /// In the order in which the test names them first, the elements of an array one behind the other.
     pub locations: Vec<Location>,
     /// One for each hart, hart 0 first.
     pub threads: Vec<Thread>,

@@ -1,16 +1,18 @@
 //! The line of a final state.
 
-ghost use Rattle.std.specs.Prelude.{◌≡◌, ◌<◌, ◌≤◌, OnOk, Some, length, slice_get, position};
+ghost use Rattle.std.specs.Prelude.{◌≡◌, ◌<◌, ◌≤◌, ◌++◌, ◌∷◌, [], codes, OnOk, Some, length, slice_get, position};
+ghost use Rattle.litmus_text.specs.{State.whole_element, Value.observed_text};
 ghost use Rattle.std.specs.Io.KnownBytes.{Appends};
 ghost use Rattle.litmus_tests.specs.declared.condition.Observed.{Observed as AnyObserved};
 ghost use Rattle.text_fields.specs.Each.{each_from};
 ghost use Rattle.litmus_text.specs.State.{state_line, part_text, equation_text, space_of, stop_text, stopped_text};
+ghost use Rattle.litmus_text.specs.State.{array_name, closing_text, element_in, element_of, opening_text};
 ghost use Rattle.litmus_text.specs.State.{is_told, first_told, space_before};
 
 use crate::value::{write_number, write_observed};
 use arrayvec::ArrayString;
 use litmus_images::value_in;
-use litmus_tests::{LitmusTest, Observed};
+use litmus_tests::{Element, LitmusTest, Observed, type_of};
 use smt_model::Status;
 use std::io;
 use std::io::Write;
@@ -75,6 +77,7 @@ fn write_part<W: Write>(
     write_equation(test, index, test.observed[index], number, out)
 }
 
+#[tactic(auto, unfolding(crate::specs::State::equation_text))]
 fn write_equation<W: Write>(
     test: &LitmusTest,
     index: usize,
@@ -85,11 +88,124 @@ fn write_equation<W: Write>(
     ensures { OnOk result (Appends (W.contents out.old) (W.contents out.new)
         (equation_text test.now index observed number)) }
 {
+    let element = element_in(test, observed);
+    write_opening(test, index, observed, element, out)?;
+    write_number(test, type_of(&test.locations, observed), number, out)?;
+    out.write_all(closing_text(element).as_bytes())
+}
+
+/// The element that is looked at of an array that is shown as a whole.
+fn element_in(test: &LitmusTest, observed: Observed) -> Option<Element>
+    ensures { result ≡ element_in test.now observed }
+{
+    match observed {
+        Observed::Register { .. } => None,
+        Observed::Location(index) => element_at(test, index),
+    }
+}
+
+fn element_at(test: &LitmusTest, index: usize) -> Option<Element>
+    ensures { result ≡ element_of (slice_get test.now.locations.items index) }
+{
+    match test.locations.get(index) {
+        Some(location) => whole_element(location.element),
+        None => None,
+    }
+}
+
+fn whole_element(element: Option<Element>) -> Option<Element>
+    ensures { result ≡ whole_element element }
+{
+    match element {
+        Some(element) => {
+            if element.is_whole {
+                return Some(element);
+            }
+            None
+        }
+        None => None,
+    }
+}
+
+/// Writes what stands before a number: what holds it, or of an array shown as a whole its name before the first
+/// element.
+fn write_opening<W: Write>(
+    test: &LitmusTest,
+    index: usize,
+    observed: Observed,
+    element: Option<Element>,
+    out: &mut W,
+) -> io::Result<()>
+    ensures { OnOk result (Appends (W.contents out.old) (W.contents out.new)
+        (opening_text test.now index observed element)) }
+{
+    match element {
+        Some(element) => {
+            if element.index == 0 {
+                return write_array_name(test, index, observed, out);
+            }
+            out.write_all(b",")
+        }
+        None => write_equals(test, index, observed, out),
+    }
+}
+
+/// Writes `x={`.
+fn write_array_name<W: Write>(
+    test: &LitmusTest,
+    index: usize,
+    observed: Observed,
+    out: &mut W,
+) -> io::Result<()>
+    ensures { OnOk result (Appends (W.contents out.old) (W.contents out.new)
+        (space_of index ++ (array_name test.now observed ++ (61 ∷ 123 ∷ [])))) }
+{
+    out.write_all(space_of(index).as_bytes())?;
+    out.write_all(array_name(test, observed))?;
+    out.write_all(b"={")
+}
+
+/// The name of the location that is looked at.
+fn array_name(test: &LitmusTest, observed: Observed) -> &[u8]
+    ensures { result.now ≡ array_name test.now observed }
+{
+    match observed {
+        Observed::Register { .. } => &[],
+        Observed::Location(index) => match test.locations.get(index) {
+            Some(location) => location.name.as_slice(),
+            None => &[],
+        },
+    }
+}
+
+/// Writes `0:x7=`.
+fn write_equals<W: Write>(
+    test: &LitmusTest,
+    index: usize,
+    observed: Observed,
+    out: &mut W,
+) -> io::Result<()>
+    ensures { OnOk result (Appends (W.contents out.old) (W.contents out.new)
+        (space_of index ++ (observed_text test.now observed ++ codes "="))) }
+{
     out.write_all(space_of(index).as_bytes())?;
     write_observed(test, observed, out)?;
-    out.write_all(b"=")?;
-    write_number(test, number, out)?;
-    out.write_all(b";")
+    out.write_all(b"=")
+}
+
+/// What stands behind a number.
+fn closing_text(element: Option<Element>) -> &'static str
+    ensures { result.now ≡ closing_text element }
+{
+    match element {
+        Some(element) => {
+            if element.count.saturating_sub(element.index) == 1 {
+                return "};";
+            }
+            ""
+        }
+        None => ";",
+    }
 }
 
 /// What stands before a part of the line.

@@ -1,10 +1,11 @@
 -- Which tokens spell a part of a test: a number, a value, a location.
-use Rattle.std.specs.Prelude.{◌≡◌, ◌⊎◌, ℕ, ◌^◌, ℤ, pos, neg_ℤ, ◌≤ℤ◌, ◌+ℤ◌, List, [], ◌∷◌}
+use Rattle.std.specs.Prelude.{◌≡◌, ◌⊎◌, ℕ, ◌+◌, ◌*◌, ◌^◌, ◌<◌, false, ℤ, pos, neg_ℤ, ◌≤ℤ◌, ◌+ℤ◌, List, [], ◌∷◌}
 use Rattle.litmus_tests.specs.declared.value.Value.{Value}
 use Rattle.litmus_tests.specs.declared.value.Value.TheVariants as value
 use Rattle.litmus_tests.specs.declared.condition.Observed.{Observed}
 use Rattle.litmus_tests.specs.declared.condition.Observed.TheVariants as observed
-use Rattle.litmus_words.specs.declared.word.Word.{Word}
+use Rattle.litmus_words.specs.declared.word.{Word.Word, Declared.Declared}
+use Rattle.watched_outcomes.specs.Watching.{bytes_of}
 use Rattle.litmus_words.specs.declared.word.Token.{Token}
 use Rattle.litmus_words.specs.declared.word.Token.TheVariants.{Register, Number, Location, Mark}
 use Rattle.litmus_words.specs.declared.word.Mark.TheVariants as mark
@@ -26,15 +27,44 @@ pub record SpellsNumber (text : List Token) (word : ℕ) : Type 0 where
   pub spelled : SpellsInteger text number
   pub fits : IsWordOf number word
 
--- A number, or the address of a location.
+-- How many bytes an element of a declared location has.
+abbrev pub element_size : Declared → ℕ
+element_size declared = bytes_of declared.number_type.width
+
+-- An index in brackets.
+abbrev pub index_tokens : ℕ → List Token
+index_tokens element = Mark mark.LeftBracket ∷ Number element ∷ Mark mark.RightBracket ∷ []
+
+-- An address: of a location, of a byte in it, or of an element of an array, as `x`, `x+4` and `x[1]`. It says how many
+-- bytes that stands behind the first of all locations.
+abbrev pub SpellsByte : Declared → List Token → ℕ → Type 0
+SpellsByte declared text byte = ((text ≡ Location declared ∷ []) × (byte ≡ declared.byte))
+    ⊎ ((offset : ℕ) × (text ≡ Location declared ∷ Mark mark.Plus ∷ Number offset ∷ [])
+    × (offset < declared.size) × (byte ≡ declared.byte + offset))
+    ⊎ ((element : ℕ) × (text ≡ Location declared ∷ index_tokens element)
+    × (element_size declared * element < declared.size) × (byte ≡ declared.byte + element_size declared * element))
+
+pub record SpellsAddress (text : List Token) (byte : ℕ) : Type 0 where
+  pub declared : Declared
+  pub spelled : SpellsByte declared text byte
+
+-- A number, or an address.
 abbrev pub SpellsValue : List Token → Value → Type 0
 SpellsValue text (value.Number number) = SpellsNumber text number
-SpellsValue text (value.Address index) = text ≡ Location index ∷ []
+SpellsValue text (value.Address byte) = SpellsAddress text byte
 
--- A location, in brackets or without.
-abbrev pub SpellsLocation : List Token → ℕ → Type 0
-SpellsLocation text index = (text ≡ Location index ∷ [])
-    ⊎ (text ≡ Mark mark.LeftBracket ∷ Location index ∷ Mark mark.RightBracket ∷ [])
+-- A location, in brackets or without, or an element of an array, by its index among the locations.
+abbrev pub SpellsIndex : Declared → List Token → ℕ → Type 0
+SpellsIndex declared text index =
+    ((text ≡ Location declared ∷ []) × (declared.is_array ≡ false) × (index ≡ declared.first))
+    ⊎ ((text ≡ Mark mark.LeftBracket ∷ Location declared ∷ Mark mark.RightBracket ∷ [])
+    × (declared.is_array ≡ false) × (index ≡ declared.first))
+    ⊎ ((element : ℕ) × (text ≡ Location declared ∷ index_tokens element)
+    × (element_size declared * element < declared.size) × (index ≡ declared.first + element))
+
+pub record SpellsLocation (text : List Token) (index : ℕ) : Type 0 where
+  pub declared : Declared
+  pub spelled : SpellsIndex declared text index
 
 -- What is looked at: `0:x7`, `x`, `[x]`.
 abbrev pub SpellsObserved : List Token → Observed → Type 0
@@ -52,6 +82,14 @@ pub record NumberTaken (words : List Word) (number : ℕ) (rest : List Word) : T
   pub text : List Token
   pub spells : SpellsNumber text number
   pub takes : Takes words text rest
+
+pub record AddressTaken (words : List Word) (byte : ℕ) (rest : List Word) : Type 0 where
+  pub text : List Token
+  pub spells : SpellsAddress text byte
+  pub takes : Takes words text rest
+
+abbrev pub ElementTaken : List Word → ℕ → List Word → Type 0
+ElementTaken words element rest = Takes words (index_tokens element) rest
 
 pub record ValueTaken (words : List Word) (value : Value) (rest : List Word) : Type 0 where
   pub text : List Token

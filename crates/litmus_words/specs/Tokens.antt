@@ -11,7 +11,7 @@ tokens (word ∷ others) = word.token ∷ tokens others
 -- The register is one, and the location is one of so many.
 abbrev pub IsTokenOf : ℕ → Token → Type 0
 IsTokenOf locations (Register register) = register < 32
-IsTokenOf locations (Location index) = index < locations
+IsTokenOf locations (Location declared) = declared.first < locations
 IsTokenOf locations token = Unit {0}
 
 abbrev pub AreTokensOf : ℕ → List Token → Type 0

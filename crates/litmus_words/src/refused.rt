@@ -1,5 +1,8 @@
 //! Why a text is refused.
 
+ghost use Rattle.std.specs.Prelude.{◌≡◌};
+ghost use Rattle.litmus_words.specs.declared.refused.Stop.TheVariants as kind;
+
 use crate::place::Place;
 use arrayvec::ArrayString;
 use litmus_tests::test::{MOST_LOCATIONS, MOST_NESTED, MOST_OBSERVED, MOST_STEPS, MOST_TERMS};
@@ -40,6 +43,14 @@ pub enum Fault {
     LinkRegister,
     /// A location that the start doesn't name.
     Undeclared,
+    /// An element or a byte that its location hasn't.
+    NoElement,
+    /// An array without an index where one number is wanted.
+    WholeArray,
+    /// An address where a number of fewer than 32 bits stands.
+    NarrowAddress,
+    /// A pointer to numbers of one size that is given the address of one of another.
+    OtherSize,
     /// Something that has its first number already.
     Twice,
     /// A hart that isn't there.
@@ -75,6 +86,10 @@ impl Fault {
             | Fault::NoRegister
             | Fault::LinkRegister
             | Fault::Undeclared
+            | Fault::NoElement
+            | Fault::WholeArray
+            | Fault::NarrowAddress
+            | Fault::OtherSize
             | Fault::Twice
             | Fault::NoHart
             | Fault::HartOrder
@@ -91,7 +106,7 @@ impl Fault {
             Fault::TooLong => Some((MOST_BYTES, "bytes")),
             Fault::TooManyHarts => Some((HART_ROOM, "harts")),
             Fault::TooManySteps => Some((MOST_STEPS, "steps of a hart")),
-            Fault::TooManyLocations => Some((MOST_LOCATIONS, "locations")),
+            Fault::TooManyLocations => Some((MOST_LOCATIONS, "words of locations")),
             Fault::TooManyObserved => Some((MOST_OBSERVED, "registers and locations looked at")),
             Fault::TooManyTerms => Some((MOST_TERMS, "terms")),
             Fault::TooDeep => Some((MOST_NESTED, "levels of not and parentheses")),
@@ -114,6 +129,10 @@ impl Fault {
             Fault::ZeroRegister => "register x0, which always holds 0",
             Fault::LinkRegister => "a link register other than x0",
             Fault::Undeclared => "a location that is never declared",
+            Fault::NoElement => "an element that isn't there",
+            Fault::WholeArray => "an array where a number is wanted",
+            Fault::NarrowAddress => "an address in a byte or a half",
+            Fault::OtherSize => "a pointer to numbers of another size",
             Fault::Twice => "a second start of the same",
             Fault::NoHart => "a hart that isn't there",
             Fault::HartOrder => "harts that aren't P0, P1 and so on",
@@ -195,12 +214,16 @@ pub enum Stop {
 }
 
 impl From<AllocError> for Stop {
+    ghost from_gives = { λ _ stop. stop ≡ kind.Memory };
+
     fn from(_error: AllocError) -> Self {
         Stop::Memory
     }
 }
 
 impl<T: Drop> From<AllocFailed<T>> for Stop {
+    ghost from_gives = { λ _ stop. stop ≡ kind.Memory };
+
     fn from(_error: AllocFailed<T>) -> Self {
         Stop::Memory
     }
@@ -208,7 +231,9 @@ impl<T: Drop> From<AllocFailed<T>> for Stop {
 
 impl Stop {
     /// The fault at this byte.
-    pub fn at(at: usize, fault: Fault) -> Stop {
+    pub fn at(at: usize, fault: Fault) -> Stop
+        ensures { result ≡ kind.Fault at fault }
+    {
         Stop::Fault { at, fault }
     }
 }

@@ -1,14 +1,16 @@
 //! One part at a time: each function takes a part off the front of the words, and hands on the rest. `end` is the
 //! byte at which it is told that the words end too early.
 
-ghost use Rattle.std.specs.Prelude.{◌≡◌, ◌<◌, ◌≤◌, ◌∷◌, [], length, pos, IfOk, IfSome, OnOk};
+ghost use Rattle.std.specs.Prelude.{◌≡◌, ◌+◌, ◌*◌, ◌<◌, ◌≤◌, ◌∷◌, [], false, length, pos, IfOk, IfSome, OnOk};
 ghost use Rattle.litmus_words.specs.Tokens.{Takes};
 ghost use Rattle.litmus_words.specs.Parts.{IntegerTaken, NumberTaken, ValueTaken, LocationTaken, IsWordOf};
+ghost use Rattle.litmus_words.specs.Parts.{AddressTaken, ElementTaken, element_size};
+ghost use Rattle.watched_outcomes.specs.Watching.{bytes_of};
 ghost use Rattle.litmus_words.specs.declared.word.Token.TheVariants as token;
 
 use crate::refused::{Fault, Stop};
-use crate::word::{Mark, Token, Word, is_mark};
-use litmus_tests::Value;
+use crate::word::{Declared, Mark, Token, Word, is_mark};
+use litmus_tests::{Value, Width};
 use numbers::Reg;
 
 /// The next word.
@@ -154,13 +156,16 @@ fn word_of(number: i64) -> Option<u32>
     Some(number as u32)
 }
 
-/// A number of a word, or the address of a location.
+/// A number of a word, or an address.
 pub fn value(words: &[Word], end: usize) -> Result<(Value, &[Word]), Stop>
     ensures { IfOk result (λ p. ValueTaken words.now p.0 p.1.now) }
 {
-    let (word, rest) = next(words, end)?;
+    let (word, _) = next(words, end)?;
     match word.token {
-        Token::Location(index) => Ok((Value::Address(index), rest)),
+        Token::Location(_) => {
+            let (byte, rest) = address(words, end)?;
+            Ok((Value::Address(byte), rest))
+        }
         Token::Name => Err(Stop::at(word.start, Fault::Undeclared)),
         _ => {
             let (number, rest) = word_number(words, end)?;
@@ -169,26 +174,125 @@ pub fn value(words: &[Word], end: usize) -> Result<(Value, &[Word]), Stop>
     }
 }
 
-/// A location, in brackets or without.
+/// The address of a location, of a byte in it or of an element, as `x`, `x+4` and `x[1]`: how many bytes it stands
+/// behind the first of all locations.
+pub fn address(words: &[Word], end: usize) -> Result<(usize, &[Word]), Stop>
+    ensures { IfOk result (λ p. AddressTaken words.now p.0 p.1.now) }
+{
+    let (declared, rest) = declared(words, end)?;
+    if let Some(behind) = behind_mark(rest, Mark::Plus) {
+        let (offset, after) = natural(behind, end)?;
+        let byte = byte_at(declared, offset as usize, start_of(behind, end))?;
+        return Ok((byte, after));
+    }
+    if begins_with(rest, Mark::LeftBracket) {
+        let (element, after) = element(declared, rest, end)?;
+        let offset = bytes_before(declared.number_type.width, element);
+        let byte = byte_at(declared, offset, start_of(rest, end))?;
+        return Ok((byte, after));
+    }
+    Ok((declared.byte, rest))
+}
+
+/// The byte of a location so many behind its first.
+fn byte_at(declared: Declared, offset: usize, at: usize) -> Result<usize, Stop>
+    ensures byte { IfOk result (λ byte. byte ≡ declared.byte + offset) }
+    ensures inside { OnOk result (offset < declared.size) }
+{
+    if offset >= declared.size || declared.byte > usize::MAX - offset {
+        return Err(Stop::at(at, Fault::NoElement));
+    }
+    Ok(declared.byte + offset)
+}
+
+/// How many bytes so many numbers of this width have.
+fn bytes_before(width: Width, count: usize) -> usize
+    requires { count < 4294967296 }
+    ensures { result ≡ bytes_of width * count }
+{
+    match width {
+        Width::Byte => count,
+        Width::Half => 2 * count,
+        Width::Word => 4 * count,
+    }
+}
+
+/// An index of an array in brackets, of an element that is there.
+fn element(declared: Declared, words: &[Word], end: usize) -> Result<(usize, &[Word]), Stop>
+    ensures spelled { IfOk result (λ p. ElementTaken words.now p.0 p.1.now) }
+    ensures small { IfOk result (λ p. p.0 < 4294967296) }
+    ensures inside { IfOk result (λ p. element_size declared * p.0 < declared.size) }
+{
+    let rest = mark(words, Mark::LeftBracket, end)?;
+    if !declared.is_array {
+        return Err(Stop::at(start_of(words, end), Fault::NotOfSubset));
+    }
+    let (element, behind) = natural(rest, end)?;
+    let element = element as usize;
+    if bytes_before(declared.number_type.width, element) >= declared.size {
+        return Err(Stop::at(start_of(rest, end), Fault::NoElement));
+    }
+    let after = mark(behind, Mark::RightBracket, end)?;
+    Ok((element, after))
+}
+
+/// A location, in brackets or without, or an element of an array: its index among the test's locations.
 pub fn location(words: &[Word], end: usize) -> Result<(usize, &[Word]), Stop>
     ensures { IfOk result (λ p. LocationTaken words.now p.0 p.1.now) }
 {
     match behind_mark(words, Mark::LeftBracket) {
-        Some(rest) => {
-            let (index, rest) = plain_location(rest, end)?;
+        Some(inner) => {
+            let (declared, rest) = declared(inner, end)?;
+            let index = alone(declared, start_of(inner, end))?;
             let rest = mark(rest, Mark::RightBracket, end)?;
             Ok((index, rest))
         }
-        None => plain_location(words, end),
+        None => location_or_element(words, end),
     }
 }
 
-fn plain_location(words: &[Word], end: usize) -> Result<(usize, &[Word]), Stop>
+/// The same without brackets around it.
+fn location_or_element(words: &[Word], end: usize) -> Result<(usize, &[Word]), Stop>
+    ensures { IfOk result (λ p. LocationTaken words.now p.0 p.1.now) }
+{
+    let (declared, rest) = declared(words, end)?;
+    if begins_with(rest, Mark::LeftBracket) {
+        let (element, after) = element(declared, rest, end)?;
+        let index = index_of(declared, element, start_of(rest, end))?;
+        return Ok((index, after));
+    }
+    let index = alone(declared, start_of(words, end))?;
+    Ok((index, rest))
+}
+
+/// The index of an element among the locations.
+fn index_of(declared: Declared, element: usize, at: usize) -> Result<usize, Stop>
+    ensures { IfOk result (λ index. index ≡ declared.first + element) }
+{
+    if declared.first > usize::MAX - element {
+        return Err(Stop::at(at, Fault::NoElement));
+    }
+    Ok(declared.first + element)
+}
+
+/// The index of what is no array.
+fn alone(declared: Declared, at: usize) -> Result<usize, Stop>
+    ensures index { IfOk result (λ index. index ≡ declared.first) }
+    ensures one { OnOk result (declared.is_array ≡ false) }
+{
+    if declared.is_array {
+        return Err(Stop::at(at, Fault::WholeArray));
+    }
+    Ok(declared.first)
+}
+
+/// The name of a location or of an array.
+pub fn declared(words: &[Word], end: usize) -> Result<(Declared, &[Word]), Stop>
     ensures { IfOk result (λ p. Takes words.now (token.Location p.0 ∷ []) p.1.now) }
 {
     let (word, rest) = next(words, end)?;
     match word.token {
-        Token::Location(index) => Ok((index, rest)),
+        Token::Location(declared) => Ok((declared, rest)),
         Token::Name => Err(Stop::at(word.start, Fault::Undeclared)),
         _ => Err(Stop::at(word.start, Fault::NotOfSubset)),
     }

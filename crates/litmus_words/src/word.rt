@@ -1,9 +1,11 @@
 //! The words of a text.
 
 ghost use Rattle.std.specs.Prelude.{◌≡◌, ◌≢◌, ◌⊎◌, [], true, false, slice_range};
+ghost use Rattle.litmus_words.specs.Bytes.{bytes_in, same_bytes};
 ghost use Rattle.litmus_words.specs.declared.word.Token.TheVariants as token;
 
 use crate::mnemonic::Mnemonic;
+use litmus_tests::NumberType;
 use numbers::Reg;
 
 /// What one word is.
@@ -16,10 +18,24 @@ pub enum Token {
     Hart(u32),
     Mnemonic(Mnemonic),
     Mark(Mark),
+    /// The type of a number.
+    Type(NumberType),
     /// A name of which no more is known.
     Name,
-    /// The name of a location, by its index.
-    Location(usize),
+    /// The name of a location or of an array.
+    Location(Declared),
+}
+
+/// A location or an array, as the start declares it.
+#[derive(Clone, Copy, Drop)]
+pub struct Declared {
+    /// The index of the location, or of the first element, among the test's locations.
+    pub first: usize,
+    /// Where it stands, in bytes behind the first of all locations, and how many bytes it has.
+    pub byte: usize,
+    pub size: usize,
+    pub number_type: NumberType,
+    pub is_array: bool,
 }
 
 /// The marks, and the names that are read as marks.
@@ -31,6 +47,8 @@ pub enum Mark {
     Bar,
     Equals,
     Minus,
+    Plus,
+    Star,
     LeftParenthesis,
     RightParenthesis,
     LeftBracket,
@@ -54,8 +72,6 @@ pub enum Mark {
     /// `!=`.
     Differs,
     Filter,
-    /// `int`, `uint32_t`, `int32_t`, `unsigned`.
-    Type,
 }
 
 /// A word: what it is, the byte at which it begins, and the one behind it.
@@ -68,12 +84,23 @@ pub struct Word {
 
 /// The bytes of a word; none where it isn't one of the text.
 pub fn bytes_of(text: &[u8], word: Word) -> &[u8]
-    ensures { (result.now ≡ []) ⊎ (result.now ≡ slice_range text.now word.start word.end) }
+    ensures inside { (result.now ≡ []) ⊎ (result.now ≡ slice_range text.now word.start word.end) }
+    ensures exact { result.now ≡ bytes_in text.now word }
 {
-    match text.get(word.start..word.end) {
-        Some(bytes) => bytes,
-        None => &[],
+    if word.end < word.start {
+        return &[];
     }
+    if text.len() < word.end {
+        return &[];
+    }
+    &text[word.start..word.end]
+}
+
+/// Whether two words of a text have the same bytes.
+pub fn same_bytes(text: &[u8], first: Word, second: Word) -> bool
+    ensures { result ≡ same_bytes text.now first second }
+{
+    bytes_of(text, first) == bytes_of(text, second)
 }
 
 /// Whether the word is this mark.

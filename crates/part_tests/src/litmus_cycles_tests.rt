@@ -5,8 +5,8 @@ use crate::rows::holds;
 use explained_cycles::{draw_explanation, write_explanation};
 use litmus_cycles::explain_forbidden;
 use litmus_tests::{
-    Condition, LitmusStep, LitmusTest, Location, Observed, Quantifier, RegisterStart, Term, Thread,
-    Value,
+    Condition, INT, LitmusStep, LitmusTest, Location, Observed, Quantifier, RegisterStart, Term,
+    Thread, Value, Width,
 };
 use rv_instr::{Instr, LoadOp, Ordering, StoreOp};
 use rv_word::AmoKind;
@@ -152,7 +152,7 @@ fn thread_of(text: &str, alloc: Global) -> Result<Thread, AllocError> {
         (1, Value::Number(1)),
         (2, Value::Number(2)),
         (20, Value::Address(0)),
-        (21, Value::Address(1)),
+        (21, Value::Address(4)),
     ] {
         starts.push(RegisterStart { register, value })?;
     }
@@ -165,10 +165,13 @@ fn thread_of(text: &str, alloc: Global) -> Result<Thread, AllocError> {
     Ok(Thread { starts, steps })
 }
 
-fn location_of(name: &[u8], alloc: Global) -> Result<Location, AllocError> {
+fn location_of(name: &[u8], byte: usize, alloc: Global) -> Result<Location, AllocError> {
     Ok(Location {
         name: name.to_vec(alloc)?,
-        initial: Value::Number(0),
+        element: None,
+        byte,
+        begin: byte,
+        number_type: INT,
     })
 }
 
@@ -182,6 +185,7 @@ fn and(
     let term = Condition::Holds(Term {
         observed,
         value: Value::Number(number),
+        width: Width::Word,
     });
     let first = Box::new(alloc, condition)?;
     let second = Box::new(alloc, term)?;
@@ -209,10 +213,14 @@ fn test_of(row: &Row, alloc: Global) -> Result<LitmusTest, AllocError> {
         threads.push(thread_of(hart, alloc)?)?;
     }
     let mut locations = Vec::new(alloc);
-    locations.push(location_of(b"x", alloc)?)?;
-    locations.push(location_of(b"y", alloc)?)?;
+    locations.push(location_of(b"x", 0, alloc)?)?;
+    locations.push(location_of(b"y", 4, alloc)?)?;
+    let mut words = Vec::new(alloc);
+    words.push(Value::Number(0))?;
+    words.push(Value::Number(0))?;
     Ok(LitmusTest {
         name: b"row".to_vec(alloc)?,
+        words,
         locations,
         threads,
         filter: Condition::Always,

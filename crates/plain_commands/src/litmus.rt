@@ -2,7 +2,10 @@
 
 ghost use Rattle.std.specs.Prelude.{◌≡◌, ◌++◌, IfOk, IfErr, OnOk, is_some, true, false};
 ghost use Rattle.std.specs.Io.KnownBytes.{Appends};
+ghost use Rattle.elf_image.specs.Written.{file_of};
+ghost use Rattle.event_text.specs.{Sinking.HasPut};
 ghost use Rattle.litmus_tests.specs.WellFormed.{IsWellFormed};
+ghost use Rattle.litmus_reading.specs.Texts.{IsTextOf};
 ghost use Rattle.litmus_text.specs.States.{states_text};
 ghost use Rattle.outcome_text.specs.Listing.{ends_text};
 ghost use Rattle.searches.specs.declared.extent.Extent.TheVariants.{Whole};
@@ -42,7 +45,8 @@ pub fn perform_litmus<G: Gate, S: EndFiles, W: Write>(
     requires works { S.has_failed file.old ≡ false }
     requires finished { S.is_finished file.old ≡ true }
     ensures refused { IfErr result (IsLitmusRefusal text.now command.now) }
-    ensures ended { IfOk result (LitmusComesTo command.now (W.contents out.old) (W.contents out.new)) }
+    ensures ended { IfOk result (LitmusComesTo text.now command.now
+        (HasPut S.written S.has_failed file.old file.new) (W.contents out.old) (W.contents out.new)) }
     ensures unwanted { is_some (written_for_test command.now) ≡ false → file.new ≡ file.old }
     ensures unbroken { OnOk result (S.has_failed file.new ≡ false) }
     ensures finished { OnOk result (S.is_finished file.new ≡ true) }
@@ -59,6 +63,7 @@ pub fn perform_litmus<G: Gate, S: EndFiles, W: Write>(
 /// The test that a text is.
 fn test_of(text: &[u8], alloc: Global) -> Result<LitmusTest, Refused>
     ensures sound { IfOk result IsWellFormed }
+    ensures read { IfOk result (IsTextOf text.now) }
     ensures refused { IfErr result (IsTextRefusal text.now) }
 {
     match read_litmus(text, alloc) {
@@ -91,7 +96,7 @@ pub fn perform_test<G: Gate, S: EndFiles, W: Write>(
     requires finished { S.is_finished file.old ≡ true }
     ensures refused { IfErr result (IsTestRefusal command.now) }
     ensures ended { IfOk result (TestComesTo test.now command.now
-        (W.contents out.old) (W.contents out.new)) }
+        (HasPut S.written S.has_failed file.old file.new) (W.contents out.old) (W.contents out.new)) }
     ensures unwanted { is_some (written_for_test command.now) ≡ false → file.new ≡ file.old }
     ensures unbroken { OnOk result (S.has_failed file.new ≡ false) }
     ensures finished { OnOk result (S.is_finished file.new ≡ true) }
@@ -133,6 +138,8 @@ fn put_image<S: EndFiles>(
 ) -> Result<(), Refused>
     requires works { S.has_failed file.old ≡ false }
     requires finished { S.is_finished file.old ≡ true }
+    ensures kept { OnOk result (is_some command.now.image ≡ true
+        → HasPut S.written S.has_failed file.old file.new (file_of image.now)) }
     ensures refused { IfErr result (IsTestRefusal command.now) }
     ensures unwanted { is_some command.now.image ≡ false → file.new ≡ file.old }
     ensures unbroken { OnOk result (S.has_failed file.new ≡ false) }

@@ -17,7 +17,7 @@ pub(super) fn write_boxes<W: Write>(
     layout: &Layout,
     out: &mut W,
 ) -> io::Result<()> {
-    for location in 0..test.locations.len() {
+    for location in 0..test.words.len() {
         if events.iter().any(|event| reads_start(event, location)) {
             write_start(test, location, layout, out)?;
         }

@@ -85,7 +85,7 @@ impl Layout {
         Layout {
             harts: number_of(test.threads.len()),
             rows,
-            locations: number_of(test.locations.len()),
+            locations: number_of(test.words.len()),
         }
     }
 

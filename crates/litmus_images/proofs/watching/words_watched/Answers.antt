@@ -1,30 +1,27 @@
 use Rattle.std.proofs.Common.{arith, ap, sym, ◌∙◌, length, take, map}
 use Rattle.std.specs.List.{filter_map}
 use Rattle.std.proofs.lemmas.List.{length-map}
-use Rattle.litmus_images.specs.Watching.{location_of, word_of}
-use Rattle.litmus_images.proofs.Watched.{word_more, none_more, room, location_there}
+use Rattle.litmus_images.specs.Watching.{location_of, cell_of}
+use Rattle.litmus_images.proofs.Watched.{word_more, none_more, room}
 use Rattle.litmus_images.proofs.watching.words_watched.Goals as goal
 use Rattle.litmus_images.proofs.watching.words_watched.Goals.{in-Some, in-None}
 
-pub address_of-requires : goal.address_of-requires
-address_of-requires c = location_there c.args.observed.now c.loop-each.each-index _ c.in-Some.index
-    c.loop-each-test.true c.requires.there (sym c.in-Some.is ∙ c.location_of.ensures)
-
 pub push-requires : goal.push-requires
 push-requires c =
-    let small = room location_of c.args.observed.now c.loop-each.each-index c.requires.few c.loop-each-test.true in
+    let small = room location_of c.args.observed.now c.loop-each.each-index c.requires c.loop-each-test.true in
     let same = ap length c.loop-each.invariant
-    ∙ length-map (filter_map location_of (take c.loop-each.each-index c.args.observed.now)) word_of in
+    ∙ length-map (filter_map location_of (take c.loop-each.each-index c.args.observed.now))
+    (cell_of c.args.locations.now) in
     (omega arith, omega (arith, small, same))
 
 pub loop-each-preserved : goal.loop-each-preserved
 loop-each-preserved c = elim c.match-location_of.branch [
   | in-Some w ↦
       rw w.words-is (w.push.ensures.items
-      ∙ word_more c.args.observed.now c.loop-each.each-index _ w.in-Some.index _ _ c.loop-each-test.true
-      (sym w.in-Some.is ∙ c.location_of.ensures) w.address_of.ensures c.loop-each.invariant)
+      ∙ word_more c.args.locations.now c.args.observed.now c.loop-each.each-index _ w.in-Some.index _ _
+      c.loop-each-test.true (sym w.in-Some.is ∙ c.location_of.ensures) w.cell_of.ensures c.loop-each.invariant)
   | in-None w ↦
       rw w.words-is (c.loop-each.invariant
-      ∙ ap (map word_of) (none_more location_of c.args.observed.now c.loop-each.each-index _ c.loop-each-test.true
-      (sym w.in-None.is ∙ c.location_of.ensures)))
+      ∙ ap (map (cell_of c.args.locations.now)) (none_more location_of c.args.observed.now c.loop-each.each-index _
+      c.loop-each-test.true (sym w.in-None.is ∙ c.location_of.ensures)))
 ]

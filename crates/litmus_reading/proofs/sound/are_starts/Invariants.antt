@@ -3,4 +3,4 @@ use Rattle.litmus_tests.specs.WellFormed.{IsStart}
 use Rattle.litmus_reading.proofs.sound.are_starts.Given as goal
 
 abbrev pub invariant-loop-start : goal.invariant-loop-start
-invariant-loop-start l = All (IsStart l.locations) (take l.start-index l.starts)
+invariant-loop-start l = All (IsStart l.words) (take l.start-index l.starts)

@@ -7,11 +7,11 @@ use Rattle.litmus_reading.proofs.sound.are_threads.Goals as goal
 
 pub loop-thread-preserved : goal.loop-thread-preserved
 loop-thread-preserved c =
-    All-more (IsThread c.args.locations) c.args.threads.now _ c.thread-item.result c.loop-thread-test.true
+    All-more (IsThread c.args.words) c.args.threads.now _ c.thread-item.result c.loop-thread-test.true
     c.loop-thread.invariant
-    (subst (λ (thread : Thread). IsThread c.args.locations thread) c.thread-item.is
+    (subst (λ (thread : Thread). IsThread c.args.words thread) c.thread-item.is
     (c.is_thread.ensures c.if-not-is_thread.false))
 
 pub returns : goal.returns
 returns c = λ is.
-    all_told (IsThread c.args.locations) c.args.threads.now c.loop-thread.thread-index c.loop-thread-test.false c.loop-thread.invariant
+    all_told (IsThread c.args.words) c.args.threads.now c.loop-thread.thread-index c.loop-thread-test.false c.loop-thread.invariant

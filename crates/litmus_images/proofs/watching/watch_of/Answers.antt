@@ -1,5 +1,0 @@
-use Rattle.litmus_images.proofs.Watched.{all_there}
-use Rattle.litmus_images.proofs.watching.watch_of.Goals as goal
-
-pub words_watched-words-requires-clause-there : goal.words_watched-words-requires-clause-there
-words_watched-words-requires-clause-there c = rw c.deref-2.ensures.value (all_there c.args.test.now c.requires)
