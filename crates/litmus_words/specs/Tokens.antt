@@ -1,5 +1,5 @@
 -- The tokens of words, and which registers and locations they can name.
-use Rattle.std.specs.Prelude.{◌≡◌, ℕ, ◌<◌, ◌≤◌, List, [], ◌∷◌, ◌++◌, length}
+use Rattle.std.specs.Prelude.{◌≡◌, ℕ, ◌<◌, List, [], ◌∷◌}
 use Rattle.litmus_words.specs.declared.word.Word.{Word}
 use Rattle.litmus_words.specs.declared.word.Token.{Token}
 use Rattle.litmus_words.specs.declared.word.Token.TheVariants.{Register, Location}
@@ -23,6 +23,10 @@ pub record AreWordsOf (locations : ℕ) (words : List Word) : Type 0 where
   pub are : AreTokensOf locations (tokens words)
 
 -- These tokens stand before the rest of the words.
-pub record Takes (words : List Word) (taken : List Token) (rest : List Word) : Type 0 where
-  pub spelled : tokens words ≡ taken ++ tokens rest
-  pub shorter : length rest ≤ length words
+abbrev pub Begin : List Token → List Word → List Word → Type 0
+Begin [] words rest = words ≡ rest
+Begin (token ∷ taken) [] rest = ⊥
+Begin (token ∷ taken) (word ∷ words) rest = (word.token ≡ token) × Begin taken words rest
+
+abbrev pub Takes : List Word → List Token → List Word → Type 0
+Takes words taken rest = Begin taken words rest
