@@ -9,7 +9,7 @@ use Rattle.litmus_words.specs.declared.word.Token.TheVariants.{Number, Location,
 use Rattle.litmus_words.specs.declared.word.Mark.TheVariants as mark
 use Rattle.litmus_words.specs.Parts.{AddressTaken, ElementTaken, IntegerTaken, IsWordOf, LocationTaken, NoIndex, NoOffset, NumberTaken, SpellsByte, SpellsIndex, SpellsInteger, ValueTaken, element_size, index_tokens}
 use Rattle.litmus_words.specs.Tokens.{Takes}
-use Rattle.litmus_words.proofs.Taking.{first_taken, in_parts}
+use Rattle.litmus_words.proofs.Taking.{first_taken, in_parts, same_first}
 
 -- what stands before the rest of the same words does so
 pub moved : (one other rest : List Word) (taken : List Token) → one ≡ other → Takes other taken rest
@@ -23,13 +23,11 @@ moved_one one other rest token same so = moved one other rest (token ∷ []) sam
 -- words begin with one token
 pub one_first : (words one other : List Word) (first second : Token) → Takes words (first ∷ []) one
     → Takes words (second ∷ []) other → first ≡ second
-one_first [] one other first second f s = absurd f
-one_first (word ∷ words) one other first second f s = sym f.0 ∙ s.0
+one_first words one other first second f s = same_first words one other first second [] f s
 
 pub one_first_of : (words one other : List Word) (first second : Token) (more : List Token)
     → Takes words (first ∷ []) one → Takes words (second ∷ more) other → first ≡ second
-one_first_of [] one other first second more f s = absurd f
-one_first_of (word ∷ words) one other first second more f s = sym f.0 ∙ s.0
+one_first_of words one other first second more f s = same_first words one other first second more f s
 
 no_location : (declared : Declared) → mark_token mark.LeftBracket ≡ Location declared → ⊥
 no_location declared e = cc
@@ -51,16 +49,16 @@ pub in_brackets : (words rest : List Word) (token : Token)
 in_brackets words rest token taken =
     let first = in_parts words rest (mark_token mark.LeftBracket ∷ [])
     (token ∷ mark_token mark.RightBracket ∷ []) taken in
-    let second = in_parts first.0 rest (token ∷ []) (mark_token mark.RightBracket ∷ []) first.2 in
-    record { inside = first.0; last = second.0; opens = first.1; one = second.1; closes = second.2 }
+    let second = in_parts first.between rest (token ∷ []) (mark_token mark.RightBracket ∷ []) first.behind in
+    record { inside = first.between; last = second.between; opens = first.before; one = second.before; closes = second.behind }
 
 pub no_bracket : (words rest : List Word) → NoIndex words → Takes words (mark_token mark.LeftBracket ∷ []) rest → ⊥
-no_bracket [] rest none taken = taken
-no_bracket (word ∷ words) rest none taken = none taken.0
+no_bracket [] rest none taken = taken.so
+no_bracket (word ∷ words) rest none taken = none taken.so.0
 
 pub no_plus : (words rest : List Word) → NoOffset words → Takes words (mark_token mark.Plus ∷ []) rest → ⊥
-no_plus [] rest none taken = taken
-no_plus (word ∷ words) rest none taken = none taken.0
+no_plus [] rest none taken = taken.so
+no_plus (word ∷ words) rest none taken = none taken.so.0
 
 -- an address, behind its location
 pub record GoesOnByOffset (behind : List Word) (declared : Declared) (byte : ℕ) (rest : List Word) : Type 0 where
@@ -99,16 +97,16 @@ address_by words rest byte declared text (inl alone) taken = record {
 address_by words rest byte declared text (inr (inl (offset, is, inside, so))) taken =
     let parts = in_parts words rest (Location declared ∷ []) (mark_token mark.Plus ∷ Number offset ∷ [])
     (subst (λ (t : List Token). Takes words t rest) is taken) in
-    let inner = in_parts parts.0 rest (mark_token mark.Plus ∷ []) (Number offset ∷ []) parts.2 in
+    let inner = in_parts parts.between rest (mark_token mark.Plus ∷ []) (Number offset ∷ []) parts.behind in
     record {
       declared = declared;
-      behind = parts.0;
-      name = parts.1;
+      behind = parts.between;
+      name = parts.before;
       on = inr (inl (record {
         offset = offset;
-        after = inner.0;
-        plus = inner.1;
-        number = inner.2;
+        after = inner.between;
+        plus = inner.before;
+        number = inner.behind;
         inside = inside;
         is = so;
       }));
@@ -118,9 +116,9 @@ address_by words rest byte declared text (inr (inr (element, is, array, inside, 
     (subst (λ (t : List Token). Takes words t rest) is taken) in
     record {
       declared = declared;
-      behind = parts.0;
-      name = parts.1;
-      on = inr (inr (record { element = element; index = parts.2; array = array; inside = inside; is = so }));
+      behind = parts.between;
+      name = parts.before;
+      on = inr (inr (record { element = element; index = parts.behind; array = array; inside = inside; is = so }));
     }
 
 pub address_parts : (words rest : List Word) (byte : ℕ) → AddressTaken words byte rest → AddressParts words byte rest
@@ -203,10 +201,10 @@ location_by words rest index declared text (inr (inr (element, is, array, inside
     inr (inr (record {
       declared = declared;
       element = element;
-      behind = parts.0;
-      name = parts.1;
+      behind = parts.between;
+      name = parts.before;
       array = array;
-      brackets = parts.2;
+      brackets = parts.behind;
       inside = inside;
       is = so;
     }))
@@ -254,7 +252,7 @@ integer_by words rest number text (natural, inl (is, so)) taken = inl (record {
 integer_by words rest number text (natural, inr (is, so)) taken =
     let parts = in_parts words rest (mark_token mark.Minus ∷ []) (Number natural ∷ [])
     (subst (λ (t : List Token). Takes words t rest) is taken) in
-    inr (record { natural = natural; between = parts.0; minus = parts.1; taken = parts.2; is = so })
+    inr (record { natural = natural; between = parts.between; minus = parts.before; taken = parts.behind; is = so })
 
 pub integer_parts : (words rest : List Word) (number : ℤ) → IntegerTaken words number rest
     → PlainInteger words number rest ⊎ SignedInteger words number rest

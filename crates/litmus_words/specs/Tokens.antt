@@ -28,5 +28,5 @@ Begin [] words rest = words ≡ rest
 Begin (token ∷ taken) [] rest = ⊥
 Begin (token ∷ taken) (word ∷ words) rest = (word.token ≡ token) × Begin taken words rest
 
-abbrev pub Takes : List Word → List Token → List Word → Type 0
-Takes words taken rest = Begin taken words rest
+pub record Takes (words : List Word) (taken : List Token) (rest : List Word) : Type 0 where
+  pub so : Begin taken words rest
