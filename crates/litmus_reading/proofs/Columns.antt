@@ -7,8 +7,9 @@ use Rattle.litmus_words.specs.declared.word.Word.{Word}
 use Rattle.litmus_words.specs.Bytes.{same_bytes}
 use Rattle.litmus_reading.specs.declared.instruction.Written.{Written}
 use Rattle.litmus_reading.specs.declared.thread.Label.{Label}
+use Rattle.litmus_reading.specs.Rows.{cell_at, column_of}
 use Rattle.litmus_reading.specs.Threads.{instruction_of, instructions_of, if_some, label_at, labels_from}
-use Rattle.litmus_reading.specs.Threads.{target_of, AreOnce, AreSpelled, StepAdded, IsStepOf, AreStepsOf}
+use Rattle.litmus_reading.specs.Threads.{target_of, AreOnce, AreSpelled, SpellsThread, StepAdded, IsStepOf, AreStepsOf}
 use Rattle.litmus_reading.proofs.Naming.{drop_here}
 
 append_spelled : (a b : List (List Word)) (x y : List Written) → AreSpelled a x → AreSpelled b y
@@ -83,6 +84,31 @@ labels_more all column cells cell steps after labels later next before added is 
     ∙ ap (λ (t : List (List Word)). labels ++ labels_from (length steps) t) (sym next)
     ∙ before
 
+-- what a turn adds, of the cell as it is handed on
+pub record Turn (text : List ℕ) (hart : ℕ) (rest behind cell : List Word) (steps after : List Written)
+    (labels later : List Label) : Type 0 where
+  pub next : column_of hart rest ≡ cell ∷ column_of hart behind
+  pub added : StepAdded (instruction_of cell) steps after
+  pub more : later ≡ labels ++ label_at (length steps) cell
+  pub once : AreOnce text labels (label_at (length steps) cell)
+
+pub turn : (text : List ℕ) (hart : ℕ) (rest row behind cell instruction : List Word) (steps after : List Written)
+    (labels later : List Label) (place : ℕ) → column_of hart rest ≡ cell_at hart row ∷ column_of hart behind
+    → cell ≡ cell_at hart row → instruction ≡ instruction_of cell → StepAdded instruction steps after
+    → place ≡ length steps → later ≡ labels ++ label_at place cell → AreOnce text labels (label_at place cell)
+    → Turn text hart rest behind cell steps after labels later
+turn text hart rest row behind cell instruction steps after labels later place next cut of added many more once =
+    record {
+      next = next ∙ ap (λ (t : List Word). t ∷ column_of hart behind) (sym cut);
+      added = subst (λ (t : List Word). StepAdded t steps after) of added;
+      more = more ∙ ap (λ (n : ℕ). labels ++ label_at n cell) many;
+      once = subst (λ (n : ℕ). AreOnce text labels (label_at n cell)) many once;
+    }
+
+pub no_rows : (hart : ℕ) (rest : List Word) → length rest ≡ 0 → column_of hart rest ≡ []
+no_rows hart [] none = refl
+no_rows hart (word ∷ rest) none = absurd (omega (arith, none))
+
 -- the column is over
 pub steps_end : (all : List (List Word)) (column : List (List Word)) (steps : List Written) → column ≡ []
     → ((more : List Written) → AreSpelled (instructions_of column) more → AreSpelled all (steps ++ more))
@@ -137,3 +163,17 @@ pub no_target : (text : List ℕ) (labels : List Label) (word : Word) (i : ℕ) 
     → target_of text (drop i labels) word ≡ None
 no_target text labels word i past =
     ap (λ (t : List Label). target_of text t word) (drop_of_length-le labels past)
+
+-- a hart, by its column
+pub spelled_thread : (text : List ℕ) (rows : List Word) (hart : ℕ) (written all : List Written)
+    (labels held : List Label) (steps : List LitmusStep) → AreSpelled (instructions_of (column_of hart rows)) written
+    → labels ≡ labels_from 0 (column_of hart rows) → AreOnce text [] (labels_from 0 (column_of hart rows))
+    → held ≡ labels → all ≡ written → AreStepsOf text held all steps → SpellsThread text rows hart steps
+spelled_thread text rows hart written all labels held steps spelled are once same as_written so = record {
+  written = written;
+  spelled = spelled;
+  once = once;
+  steps_are = subst (λ (t : List Written).
+      AreStepsOf text (labels_from 0 (column_of hart rows)) t steps) as_written
+      (subst (λ (t : List Label). AreStepsOf text t all steps) (same ∙ are) so);
+}

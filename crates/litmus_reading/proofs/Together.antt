@@ -64,3 +64,19 @@ of_text text name from words inside behind located names test short head named s
   is = subst (λ (t : List Named). IsOfWords text t (map (located_word text t) words) test) are
       (subst (λ (t : List Word). IsOfWords text names t test) is of);
 }
+
+-- the same where parts are lent as slices
+pub of_slices : (text name : List ℕ) (from : ℕ) (words lent again inside behind located lent_located : List Word)
+    (names lent_names names_again : List Named) (test : LitmusTest) → length text ≤ 65536 → IsHeadOf text name from
+    → test.name.items ≡ name → StandFrom text from words → lent ≡ words → again ≡ words → lent_names ≡ names
+    → lent_located ≡ located → names_again ≡ names → IsBraced lent inside behind → names ≡ names_in text inside
+    → located ≡ map (located_word text lent_names) again → IsOfWords text names_again lent_located test
+    → IsTextOf text test
+of_slices text name from words lent again inside behind located lent_located names lent_names names_again test short
+    head named stand same same_again same_names same_located same_names_again braced are is of =
+    of_text text name from words inside behind located names test short head named stand
+    (subst (λ (t : List Word). IsBraced t inside behind) same braced) are
+    (is ∙ ap (λ (t : List Named). map (located_word text t) again) same_names
+    ∙ ap (map (located_word text names)) same_again)
+    (subst (λ (t : List Named). IsOfWords text t located test) same_names_again
+    (subst (λ (t : List Word). IsOfWords text names_again t test) same_located of))

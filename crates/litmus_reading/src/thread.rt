@@ -11,6 +11,7 @@ ghost use Rattle.litmus_reading.specs.Threads.{
   target_of,
   AreOnce,
   AreSpelled,
+  AreStepsOf,
   IsStepOf,
   SpellsThread,
   StepAdded,
@@ -48,9 +49,27 @@ pub(crate) fn read_steps(
     ensures { IfOk result (λ steps. SpellsThread text.now rows.now hart steps.items) }
 {
     let column = read_column(text, rows, hart, alloc)?;
+    let steps = steps_of(
+        text,
+        column.labels.as_slice(),
+        column.steps.as_slice(),
+        alloc,
+    )?;
+    Ok(steps)
+}
+
+/// The steps that instructions are, whose branches lead to these labels.
+fn steps_of(
+    text: &[u8],
+    labels: &[Label],
+    all: &[Written],
+    alloc: Global,
+) -> Result<Vec<LitmusStep>, Stop>
+    ensures { IfOk result (λ steps. AreStepsOf text.now labels.now all.now steps.items) }
+{
     let mut steps = Vec::new(alloc);
-    for written in column.steps.as_slice() {
-        let step = step_of(text, column.labels.as_slice(), *written)?;
+    for written in all {
+        let step = step_of(text, labels, *written)?;
         steps.push(step)?;
     }
     Ok(steps)

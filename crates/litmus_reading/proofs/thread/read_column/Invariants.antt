@@ -5,8 +5,8 @@ use Rattle.litmus_reading.specs.Threads.{instructions_of, labels_from, AreOnce, 
 use Rattle.litmus_reading.proofs.thread.read_column.Given as goal
 
 -- what spells the rest spells, behind what has been read, all
-abbrev pub invariant-loop-row : goal.invariant-loop-row
-invariant-loop-row l = record {
+abbrev pub invariant-loop-rest : goal.invariant-loop-rest
+invariant-loop-rest l = record {
   steps : (more : List Written) → AreSpelled (instructions_of (column_of l.hart l.rest)) more
       → AreSpelled (instructions_of (column_of l.hart l.rows)) (l.steps.items ++ more);
   labels : l.labels.items ++ labels_from (length l.steps.items) (column_of l.hart l.rest)
@@ -15,5 +15,5 @@ invariant-loop-row l = record {
       → AreOnce l.text [] (labels_from 0 (column_of l.hart l.rows));
 }
 
-abbrev pub decreases-loop-row : goal.decreases-loop-row
-decreases-loop-row l = length l.rest
+abbrev pub decreases-loop-rest : goal.decreases-loop-rest
+decreases-loop-rest l = length l.rest

@@ -1,7 +1,9 @@
-use Rattle.std.proofs.Common.{◌∙◌}
-use Rattle.litmus_reading.proofs.Columns.{all_steps, one_step_more}
+use Rattle.std.proofs.Common.{◌∙◌, subst}
+use Rattle.litmus_reading.proofs.Columns.{spelled_thread}
 use Rattle.litmus_reading.proofs.thread.read_steps.Goals as goal
 
-pub loop-written-preserved : goal.loop-written-preserved
-loop-written-preserved c =
-    one_step_more _ _ _ _ _ _ _ _ c.loop-written-test.true c.loop-written.invariant c.in_ok-step.ensures c.in_ok-push.ensures.items
+pub returns : goal.returns
+returns c =
+    spelled_thread c.args.text.now c.args.rows.now c.args.hart _ _ _ _ _ c.in_ok-column.ensures.steps
+    c.in_ok-column.ensures.labels c.in_ok-column.ensures.once c.as_slice.ensures.value c.as_slice-2.ensures.value
+    c.in_ok-steps.ensures
