@@ -10,7 +10,7 @@ use Rattle.litmus_words.specs.declared.word.Token.TheVariants.{Register as regis
 use Rattle.litmus_words.specs.declared.word.Mark.TheVariants as mark
 use Rattle.litmus_words.specs.Parts.{index_tokens, ValueTaken}
 use Rattle.litmus_words.specs.Tokens.{Takes, tokens}
-use Rattle.litmus_words.proofs.Taking.{one_behind_another}
+use Rattle.litmus_words.proofs.Taking.{one_behind_another, takes_nothing}
 use Rattle.litmus_reading.proofs.Naming.{pushed}
 use Rattle.litmus_reading.specs.declared.contents.Given.{Given}
 use Rattle.litmus_reading.specs.declared.start.{HartStart.HartStart, Initial.Initial}
@@ -25,9 +25,6 @@ use Rattle.litmus_reading.specs.Starts.{start_in, initial_in, start_at, starts_f
 pub none_of_same : (looked : List Entry → Option Value) (items slice : List Entry) (before : Option Value)
     → slice ≡ items → before ≡ looked slice → before ≡ None → looked items ≡ None
 none_of_same looked items slice before same is none = ap looked (sym same) ∙ sym is ∙ none
-
-pub takes_nothing : (words : List Word) → Takes words [] words
-takes_nothing words = record { spelled = refl; shorter = omega arith }
 
 pub of_register : (words a b c d rest : List Word) (start : HartStart) → Takes words (Number start.hart ∷ []) a
     → Takes a (Mark mark.Colon ∷ []) b → Takes b (register_token start.register ∷ []) c

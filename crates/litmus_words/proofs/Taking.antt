@@ -9,6 +9,17 @@ use Rattle.litmus_words.specs.declared.word.Mark.TheVariants as mark
 use Rattle.litmus_words.specs.Parts.{IntegerTaken, LocationTaken, AddressTaken, ElementTaken, element_size, index_tokens}
 use Rattle.litmus_words.specs.Tokens.{Begin, Takes, tokens}
 
+tokens_by : (words rest : List Word) (taken : List Token) → Begin taken words rest
+    → tokens words ≡ taken ++ tokens rest
+tokens_by words rest [] taken_so = ap tokens taken_so
+tokens_by [] rest (token ∷ taken) taken_so = absurd taken_so
+tokens_by (word ∷ words) rest (token ∷ taken) taken_so =
+    (λ k. taken_so.0 k ∷ tokens_by words rest taken taken_so.1 k)
+
+-- words that begin so
+pub begun : (words rest : List Word) (taken : List Token) → Begin taken words rest → Takes words taken rest
+begun words rest taken it = record { so = it; spelled = tokens_by words rest taken it }
+
 behind_another : (words between rest : List Word) (first second : List Token) → Begin first words between
     → Begin second between rest → Begin (first ++ second) words rest
 behind_another words between rest [] second before behind =
@@ -20,7 +31,7 @@ behind_another (word ∷ words) between rest (token ∷ first) second before beh
 pub one_behind_another : (words between rest : List Word) (first second : List Token) → Takes words first between
     → Takes between second rest → Takes words (first ++ second) rest
 one_behind_another words between rest first second before behind =
-    record { so = behind_another words between rest first second before.so behind.so }
+    begun words rest (first ++ second) (behind_another words between rest first second before.so behind.so)
 
 -- tokens that stand before the rest do so part by part
 pub record InParts (words : List Word) (first second : List Token) (rest : List Word) : Type 0 where
@@ -31,13 +42,13 @@ pub record InParts (words : List Word) (first second : List Token) (rest : List 
 parted : (words rest : List Word) (first second : List Token) → Begin (first ++ second) words rest
     → InParts words first second rest
 parted words rest [] second taken =
-    record { between = words; before = record { so = refl }; behind = record { so = taken } }
+    record { between = words; before = begun words words [] refl; behind = begun words rest second taken }
 parted [] rest (token ∷ first) second taken = absurd taken
 parted (word ∷ words) rest (token ∷ first) second taken =
     let further = parted words rest first second taken.1 in
     record {
       between = further.between;
-      before = record { so = (taken.0, further.before.so) };
+      before = begun (word ∷ words) further.between (token ∷ first) (taken.0, further.before.so);
       behind = further.behind;
     }
 
@@ -55,17 +66,6 @@ rest_once (word ∷ words) one other (token ∷ taken) first second = rest_once 
 pub same_rest : (words one other : List Word) (taken : List Token) → Takes words taken one → Takes words taken other
     → one ≡ other
 same_rest words one other taken first second = rest_once words one other taken first.so second.so
-
-tokens_by : (words rest : List Word) (taken : List Token) → Begin taken words rest
-    → tokens words ≡ taken ++ tokens rest
-tokens_by words rest [] taken_so = ap tokens taken_so
-tokens_by [] rest (token ∷ taken) taken_so = absurd taken_so
-tokens_by (word ∷ words) rest (token ∷ taken) taken_so =
-    (λ k. taken_so.0 k ∷ tokens_by words rest taken taken_so.1 k)
-
-pub spelled_by : (words rest : List Word) (taken : List Token) → Takes words taken rest
-    → tokens words ≡ taken ++ tokens rest
-spelled_by words rest taken it = tokens_by words rest taken it.so
 
 length_by : (words rest : List Word) (taken : List Token) → Begin taken words rest
     → length words ≡ length taken + length rest
@@ -85,14 +85,15 @@ wholly (word ∷ words) [] is = absurd cc
 wholly (word ∷ words) (token ∷ taken) is = (cc, wholly words taken cc)
 
 pub whole : (words : List Word) (taken : List Token) → tokens words ≡ taken → Takes words taken []
-whole words taken is = record { so = wholly words taken is }
+whole words taken is = begun words [] taken (wholly words taken is)
 
 pub takes_nothing : (words : List Word) → Takes words [] words
-takes_nothing words = record { so = refl }
+takes_nothing words = begun words words [] refl
 
 pub taken_first : (words rest : List Word) (word : Word) → words ≡ word ∷ rest → Takes words (word.token ∷ []) rest
 taken_first words rest word is =
-    subst (λ (t : List Word). Takes t (word.token ∷ []) rest) (sym is) (record { so = (refl, refl) })
+    subst (λ (t : List Word). Takes t (word.token ∷ []) rest) (sym is)
+    (begun (word ∷ rest) rest (word.token ∷ []) (refl, refl))
 
 -- the first word
 pub first_taken : (words rest behind : List Word) (word : Word) (token : Token) → words ≡ word ∷ rest
@@ -114,7 +115,7 @@ same_first words behind rest one other more first all = (begun_by words behind r
 pub goes_on : (words behind rest : List Word) (one other : Token) (more : List Token)
     → Takes words (one ∷ []) behind → Takes words (other ∷ more) rest → Takes behind more rest
 goes_on words behind rest one other more first all =
-    record { so = (begun_by words behind rest one other more first.so all.so).1 }
+    begun behind rest more (begun_by words behind rest one other more first.so all.so).1
 
 pub begins_by : (words rest : List Word) (one : Token) (more : List Token) → Takes words (one ∷ more) rest
     → InParts words (one ∷ []) more rest
