@@ -12,35 +12,35 @@ use Rattle.litmus_reading.specs.Threads.{instruction_of, instructions_of, if_som
 use Rattle.litmus_reading.specs.Threads.{target_of, AreOnce, AreSpelled, SpellsThread, StepAdded, IsStepOf, AreStepsOf}
 use Rattle.litmus_reading.proofs.Naming.{drop_here}
 
-append_spelled : (a b : List (List Word)) (x y : List Written) → AreSpelled a x → AreSpelled b y
-    → AreSpelled (a ++ b) (x ++ y)
-append_spelled [] b [] y h k = k
-append_spelled [] b (w ∷ x) y h k = absurd h
-append_spelled (i ∷ a) b [] y h k = absurd h
-append_spelled (i ∷ a) b (w ∷ x) y h k = (h.0, append_spelled a b x y h.1 k)
+append_spelled : {text : List ℕ} (a b : List (List Word)) (x y : List Written) → AreSpelled text a x → AreSpelled text b y
+    → AreSpelled text (a ++ b) (x ++ y)
+append_spelled {text} [] b [] y h k = k
+append_spelled {text} [] b (w ∷ x) y h k = absurd h
+append_spelled {text} (i ∷ a) b [] y h k = absurd h
+append_spelled {text} (i ∷ a) b (w ∷ x) y h k = (h.0, append_spelled a b x y h.1 k)
 
-as_many : (a : List (List Word)) (x : List Written) → AreSpelled a x → length x ≡ length a
-as_many [] [] h = refl
-as_many [] (w ∷ x) h = absurd h
-as_many (i ∷ a) [] h = absurd h
-as_many (i ∷ a) (w ∷ x) h = let rest = as_many a x h.1 in omega (arith, rest)
+as_many : {text : List ℕ} (a : List (List Word)) (x : List Written) → AreSpelled text a x → length x ≡ length a
+as_many {text} [] [] h = refl
+as_many {text} [] (w ∷ x) h = absurd h
+as_many {text} (i ∷ a) [] h = absurd h
+as_many {text} (i ∷ a) (w ∷ x) h = let rest = as_many a x h.1 in omega (arith, rest)
 
-pub steps_more : (all : List (List Word)) (column cells : List (List Word)) (cell : List Word)
+pub steps_more : {text : List ℕ} (all : List (List Word)) (column cells : List (List Word)) (cell : List Word)
     (steps after : List Written) → column ≡ cell ∷ cells
-    → ((more : List Written) → AreSpelled (instructions_of column) more → AreSpelled all (steps ++ more))
-    → StepAdded (instruction_of cell) steps after
-    → (more : List Written) → AreSpelled (instructions_of cells) more → AreSpelled all (after ++ more)
-steps_more all column cells cell steps after next before added more spelled =
-    subst (AreSpelled all)
+    → ((more : List Written) → AreSpelled text (instructions_of column) more → AreSpelled text all (steps ++ more))
+    → StepAdded text (instruction_of cell) steps after
+    → (more : List Written) → AreSpelled text (instructions_of cells) more → AreSpelled text all (after ++ more)
+steps_more {text} all column cells cell steps after next before added more spelled =
+    subst (AreSpelled text all)
     (sym (append_assoc steps added.written more) ∙ ap (λ (t : List Written). t ++ more) (sym added.added))
     (before (added.written ++ more)
-    (subst (λ (t : List (List Word)). AreSpelled (instructions_of t) (added.written ++ more)) (sym next)
+    (subst (λ (t : List (List Word)). AreSpelled text (instructions_of t) (added.written ++ more)) (sym next)
     (append_spelled (if_some (instruction_of cell)) (instructions_of cells) added.written more added.spelled spelled)))
 
 -- how many steps there are, with those of one cell more
-counted : (steps after : List Written) (cell : List Word) → StepAdded (instruction_of cell) steps after
+counted : {text : List ℕ} (steps after : List Written) (cell : List Word) → StepAdded text (instruction_of cell) steps after
     → length after ≡ length steps + length (if_some (instruction_of cell))
-counted steps after cell added =
+counted {text} steps after cell added =
     ap length added.added ∙ length-append steps added.written
     ∙ ap (λ (n : ℕ). length steps + n) (as_many (if_some (instruction_of cell)) added.written added.spelled)
 
@@ -56,7 +56,7 @@ append_once text before (l ∷ a) b h k = (
 pub once_more : (text : List ℕ) (all : List Label) (column cells : List (List Word)) (cell : List Word)
     (steps after : List Written) (labels later : List Label) → column ≡ cell ∷ cells
     → (AreOnce text labels (labels_from (length steps) column) → AreOnce text [] all)
-    → StepAdded (instruction_of cell) steps after → later ≡ labels ++ label_at (length steps) cell
+    → StepAdded text (instruction_of cell) steps after → later ≡ labels ++ label_at (length steps) cell
     → AreOnce text labels (label_at (length steps) cell)
     → AreOnce text later (labels_from (length after) cells) → AreOnce text [] all
 once_more text all column cells cell steps after labels later next before added is here rest =
@@ -72,11 +72,11 @@ pub once_end : (text : List ℕ) (all : List Label) (column : List (List Word)) 
 once_end text all column k labels none before =
     before (subst (λ (t : List (List Word)). AreOnce text labels (labels_from k t)) (sym none) tt)
 
-pub labels_more : (all : List Label) (column cells : List (List Word)) (cell : List Word) (steps after : List Written)
+pub labels_more : {text : List ℕ} (all : List Label) (column cells : List (List Word)) (cell : List Word) (steps after : List Written)
     (labels later : List Label) → column ≡ cell ∷ cells → labels ++ labels_from (length steps) column ≡ all
-    → StepAdded (instruction_of cell) steps after → later ≡ labels ++ label_at (length steps) cell
+    → StepAdded text (instruction_of cell) steps after → later ≡ labels ++ label_at (length steps) cell
     → later ++ labels_from (length after) cells ≡ all
-labels_more all column cells cell steps after labels later next before added is =
+labels_more {text} all column cells cell steps after labels later next before added is =
     let many : length after ≡ length steps + length (if_some (instruction_of cell)) = counted steps after cell added in
     ap (λ (t : List Label). t ++ labels_from (length after) cells) is
     ∙ append_assoc labels (label_at (length steps) cell) (labels_from (length after) cells)
@@ -88,19 +88,19 @@ labels_more all column cells cell steps after labels later next before added is 
 pub record Turn (text : List ℕ) (hart : ℕ) (rest behind cell : List Word) (steps after : List Written)
     (labels later : List Label) : Type 0 where
   pub next : column_of hart rest ≡ cell ∷ column_of hart behind
-  pub added : StepAdded (instruction_of cell) steps after
+  pub added : StepAdded text (instruction_of cell) steps after
   pub more : later ≡ labels ++ label_at (length steps) cell
   pub once : AreOnce text labels (label_at (length steps) cell)
 
 pub turn : (text : List ℕ) (hart : ℕ) (rest row behind cell instruction : List Word) (steps after : List Written)
     (labels later : List Label) (place : ℕ) → column_of hart rest ≡ cell_at hart row ∷ column_of hart behind
-    → cell ≡ cell_at hart row → instruction ≡ instruction_of cell → StepAdded instruction steps after
+    → cell ≡ cell_at hart row → instruction ≡ instruction_of cell → StepAdded text instruction steps after
     → place ≡ length steps → later ≡ labels ++ label_at place cell → AreOnce text labels (label_at place cell)
     → Turn text hart rest behind cell steps after labels later
 turn text hart rest row behind cell instruction steps after labels later place next cut of added many more once =
     record {
       next = next ∙ ap (λ (t : List Word). t ∷ column_of hart behind) (sym cut);
-      added = subst (λ (t : List Word). StepAdded t steps after) of added;
+      added = subst (λ (t : List Word). StepAdded text t steps after) of added;
       more = more ∙ ap (λ (n : ℕ). labels ++ label_at n cell) many;
       once = subst (λ (n : ℕ). AreOnce text labels (label_at n cell)) many once;
     }
@@ -110,12 +110,12 @@ no_rows hart [] none = refl
 no_rows hart (word ∷ rest) none = absurd (omega (arith, none))
 
 -- the column is over
-pub steps_end : (all : List (List Word)) (column : List (List Word)) (steps : List Written) → column ≡ []
-    → ((more : List Written) → AreSpelled (instructions_of column) more → AreSpelled all (steps ++ more))
-    → AreSpelled all steps
-steps_end all column steps none before =
-    subst (AreSpelled all) (append-nil steps)
-    (before [] (subst (λ (t : List (List Word)). AreSpelled (instructions_of t) []) (sym none) tt))
+pub steps_end : {text : List ℕ} (all : List (List Word)) (column : List (List Word)) (steps : List Written) → column ≡ []
+    → ((more : List Written) → AreSpelled text (instructions_of column) more → AreSpelled text all (steps ++ more))
+    → AreSpelled text all steps
+steps_end {text} all column steps none before =
+    subst (AreSpelled text all) (append-nil steps)
+    (before [] (subst (λ (t : List (List Word)). AreSpelled text (instructions_of t) []) (sym none) tt))
 
 pub labels_end : (all : List Label) (column : List (List Word)) (k : ℕ) (labels : List Label) → column ≡ []
     → labels ++ labels_from k column ≡ all → labels ≡ all
@@ -166,7 +166,7 @@ no_target text labels word i past =
 
 -- a hart, by its column
 pub spelled_thread : (text : List ℕ) (rows : List Word) (hart : ℕ) (written all : List Written)
-    (labels held : List Label) (steps : List LitmusStep) → AreSpelled (instructions_of (column_of hart rows)) written
+    (labels held : List Label) (steps : List LitmusStep) → AreSpelled text (instructions_of (column_of hart rows)) written
     → labels ≡ labels_from 0 (column_of hart rows) → AreOnce text [] (labels_from 0 (column_of hart rows))
     → held ≡ labels → all ≡ written → AreStepsOf text held all steps → SpellsThread text rows hart steps
 spelled_thread text rows hart written all labels held steps spelled are once same as_written so = record {

@@ -1,4 +1,5 @@
 pub mod Cells
+pub mod Chains
 pub mod Columns
 pub mod Conditions
 pub mod Declaring
@@ -6,6 +7,7 @@ pub mod Entries
 pub mod Giving
 pub mod Listing
 pub mod Looking
+pub mod Made
 pub mod Naming
 pub mod Remembered
 pub mod Together

@@ -59,15 +59,16 @@ AreOnce text before (label ∷ labels) =
     (target_of text before label.word ≡ None) × AreOnce text (before ++ label ∷ []) labels
 
 -- Each instruction is spelled by its words.
-abbrev pub AreSpelled : List (List Word) → List Written → Type 0
-AreSpelled [] [] = Unit {0}
-AreSpelled (words ∷ others) (written ∷ more) = SpellsInstruction words written × AreSpelled others more
-AreSpelled others more = ⊥
+abbrev pub AreSpelled : List ℕ → List (List Word) → List Written → Type 0
+AreSpelled text [] [] = Unit {0}
+AreSpelled text (words ∷ others) (written ∷ more) =
+    SpellsInstruction text words written × AreSpelled text others more
+AreSpelled text others more = ⊥
 
 -- The instruction of a cell is behind those before, if it has one.
-pub record StepAdded (instruction : List Word) (before after : List Written) : Type 0 where
+pub record StepAdded (text : List ℕ) (instruction : List Word) (before after : List Written) : Type 0 where
   pub written : List Written
-  pub spelled : AreSpelled (if_some instruction) written
+  pub spelled : AreSpelled text (if_some instruction) written
   pub added : after ≡ before ++ written
 
 -- The step that an instruction is: a branch leads to where its label does.
@@ -87,6 +88,6 @@ AreStepsOf text labels more steps = ⊥
 -- The steps of a hart, by the words of the rows.
 pub record SpellsThread (text : List ℕ) (rows : List Word) (hart : ℕ) (steps : List LitmusStep) : Type 0 where
   pub written : List Written
-  pub spelled : AreSpelled (instructions_of (column_of hart rows)) written
+  pub spelled : AreSpelled text (instructions_of (column_of hart rows)) written
   pub once : AreOnce text [] (labels_from 0 (column_of hart rows))
   pub steps_are : AreStepsOf text (labels_from 0 (column_of hart rows)) written steps

@@ -73,11 +73,11 @@ fn read_initial<'a>(
     ensures { IfOk result (λ rest. ContentsTaken declared words.now entries.old.items entries.new.items rest.now) }
 {
     let Some(behind) = behind_mark(words, Mark::Equals) else {
-        add_initial(entries, declared.first, Value::Number(0))?;
+        add_initial(entries, declared.first as usize, Value::Number(0))?;
         return Ok(words);
     };
     let (value, rest) = read_value(given, behind, end)?;
-    add_initial(entries, declared.first, value)?;
+    add_initial(entries, declared.first as usize, value)?;
     Ok(rest)
 }
 
@@ -102,7 +102,7 @@ fn read_array<'a>(
 {
     let rest = read_count(given, words, end)?;
     let Some(behind) = behind_mark(rest, Mark::Equals) else {
-        add_initial(entries, declared.first, Value::Number(0))?;
+        add_initial(entries, declared.first as usize, Value::Number(0))?;
         return Ok(rest);
     };
     let inner = mark(behind, Mark::LeftBrace, end)?;
@@ -141,8 +141,7 @@ fn read_elements<'a>(
     let count = elements_of(declared);
     for element in 0..count {
         let (value, behind) = read_value(given, rest, end)?;
-        let index = index_of(declared, element)?;
-        add_initial(entries, index, value)?;
+        add_initial(entries, index_of(declared, element), value)?;
         let Some(next) = behind_mark(behind, Mark::Comma) else {
             let after = mark(behind, Mark::RightBrace, end)?;
             return Ok(after);

@@ -76,9 +76,9 @@ fn declared_at(next: Beginning, declaration: Declaration, at: usize) -> Result<D
         return Err(Stop::at(at, Fault::TooManyLocations));
     }
     Ok(Declared {
-        first: next.first,
-        byte: next.byte,
-        size,
+        first: next.first as u16,
+        byte: next.byte as u16,
+        size: size as u16,
         number_type: declaration.number_type,
         is_array: declaration.elements.is_some(),
     })
@@ -96,7 +96,7 @@ fn size_of(width: Width, count: u32) -> usize
 }
 
 /// How many elements a location or an array has.
-pub(crate) fn elements_of(declared: Declared) -> usize
+pub(crate) fn elements_of(declared: Declared) -> u16
     ensures value { result ≡ elements_of declared }
     ensures few { result ≤ declared.size }
 {
@@ -108,33 +108,26 @@ pub(crate) fn elements_of(declared: Declared) -> usize
 }
 
 /// The index of an element among the locations.
-pub(crate) fn index_of(declared: Declared, element: usize) -> Result<usize, Stop>
-    ensures { IfOk result (λ index. index ≡ declared.first + element) }
+pub(crate) fn index_of(declared: Declared, element: u16) -> usize
+    ensures { result ≡ declared.first + element }
 {
-    if declared.first > usize::MAX - element {
-        return Err(Stop::at(0, Fault::NoElement));
-    }
-    Ok(declared.first + element)
+    declared.first as usize + element as usize
 }
 
 /// Where the next location begins: at a word.
 fn behind(declared: Declared) -> Beginning
-    requires { (declared.first ≤ 256) × (declared.byte ≤ 256) × (declared.size ≤ 256) }
     ensures { result ≡ behind declared }
 {
     Beginning {
-        first: declared.first + elements_of(declared),
-        byte: (declared.byte + declared.size + 3) / 4 * 4,
+        first: index_of(declared, elements_of(declared)),
+        byte: (declared.byte as usize + declared.size as usize + 3) / 4 * 4,
     }
 }
 
 /// How many locations these names are, each element of an array one.
 pub(crate) fn count_of(names: &[Named]) -> usize {
     match names.last() {
-        Some(last) => last
-            .declared
-            .first
-            .saturating_add(elements_of(last.declared)),
+        Some(last) => index_of(last.declared, elements_of(last.declared)),
         None => 0,
     }
 }

@@ -39,7 +39,7 @@ pub(crate) struct Question {
 #[derive(Drop)]
 pub(crate) struct Listed {
     pub observed: Vec<Observed>,
-    pub whole: Vec<usize>,
+    pub whole: Vec<u16>,
 }
 
 /// Reads all that stands behind the rows. Where `locations` stands, there may be no condition: it is `forall (true)`
@@ -238,7 +238,7 @@ fn list_one(one: Observed, listed: &mut Vec<Observed>) -> Result<(), Stop>
 }
 
 /// Keeps an array that is listed as a whole.
-fn list_whole(first: usize, whole: &mut Vec<usize>) -> Result<(), Stop>
+fn list_whole(first: u16, whole: &mut Vec<u16>) -> Result<(), Stop>
     ensures { OnOk result (whole.new.items ≡ whole.old.items ++ first ∷ []) }
 {
     whole.push(first)?;
@@ -252,8 +252,7 @@ fn list_elements(declared: Declared, listed: &mut Vec<Observed>) -> Result<(), S
 {
     let count = elements_of(declared);
     for element in 0..count {
-        let index = index_of(declared, element)?;
-        list_one(Observed::Location(index), listed)?;
+        list_one(Observed::Location(index_of(declared, element)), listed)?;
     }
     Ok(())
 }

@@ -153,7 +153,7 @@ fn add_location<'a>(
     ensures { IfOk result (λ rest. AddedTaken words.now entries.old.items entries.new.items rest.now) }
 {
     let (declared, rest) = read_name(words, end)?;
-    let before = initial_in(entries.as_slice(), declared.first);
+    let before = initial_in(entries.as_slice(), declared.first as usize);
     let rest = read_contents(entries, given, declared, rest, end)?;
     check_once(before, start_of(words, end))?;
     Ok(rest)

@@ -28,7 +28,6 @@ use crate::rows::{read_harts, rows_of};
 use crate::sound::makes_sense;
 use crate::start::{Entry, check_harts, read_start, starts_of};
 use crate::thread::read_steps;
-use litmus_tests::test::MOST_LOCATIONS;
 use litmus_tests::{Element, LitmusTest, Location, Thread, Width};
 use litmus_words::{
     Declared, Fault, MOST_BYTES, Mark, ReadingRefused, Shown, Stop, Token, Word, bytes_of, is_mark,
@@ -192,7 +191,7 @@ fn read_words(
 fn read_locations(
     text: &[u8],
     names: &[Named],
-    whole: &[usize],
+    whole: &[u16],
     alloc: Global,
 ) -> Result<Vec<Location>, Stop>
     ensures { IfOk result (λ locations. AreLocations text.now whole.now names.now locations.items) }
@@ -208,7 +207,7 @@ fn read_locations(
 fn add_elements(
     text: &[u8],
     name: Named,
-    whole: &[usize],
+    whole: &[u16],
     locations: &mut Vec<Location>,
     alloc: Global,
 ) -> Result<(), Stop>
@@ -226,8 +225,8 @@ fn add_elements(
 fn location_of(
     text: &[u8],
     name: Named,
-    index: usize,
-    whole: &[usize],
+    index: u16,
+    whole: &[u16],
     alloc: Global,
 ) -> Result<Location, Stop>
     ensures { IfOk result (IsElementOf text.now whole.now name index) }
@@ -236,36 +235,34 @@ fn location_of(
     Ok(Location {
         name: Vec::from_slice(alloc, bytes_of(text, name.word))?,
         element: element_of(declared, index, whole),
-        byte: byte_of(declared, index)?,
-        begin: declared.byte,
+        byte: byte_of(declared, index),
+        begin: declared.byte as usize,
         number_type: declared.number_type,
     })
 }
 
 /// Where an element stands.
-fn byte_of(declared: Declared, index: usize) -> Result<usize, Stop>
-    ensures { IfOk result (λ byte. byte ≡ declared.byte + index * element_size declared) }
+fn byte_of(declared: Declared, index: u16) -> usize
+    ensures { result ≡ declared.byte + index * element_size declared }
 {
-    if declared.byte > 4 * MOST_LOCATIONS || index > 4 * MOST_LOCATIONS {
-        return Err(Stop::at(0, Fault::TooManyLocations));
+    let (begin, index) = (declared.byte as usize, index as usize);
+    match declared.number_type.width {
+        Width::Byte => begin + index,
+        Width::Half => begin + index * 2,
+        Width::Word => begin + index * 4,
     }
-    Ok(match declared.number_type.width {
-        Width::Byte => declared.byte + index,
-        Width::Half => declared.byte + index * 2,
-        Width::Word => declared.byte + index * 4,
-    })
 }
 
 /// The element with this index, where it is one of an array.
-fn element_of(declared: Declared, index: usize, whole: &[usize]) -> Option<Element>
+fn element_of(declared: Declared, index: u16, whole: &[u16]) -> Option<Element>
     ensures { result ≡ element_of whole.now declared index }
 {
     if !declared.is_array {
         return None;
     }
     Some(Element {
-        index,
-        count: elements_of(declared),
+        index: index as usize,
+        count: elements_of(declared) as usize,
         is_whole: whole.contains(&declared.first),
     })
 }

@@ -85,7 +85,7 @@ pub(crate) fn no_column(alloc: Global) -> Column {
 
 fn read_column(text: &[u8], rows: &[Word], hart: u8, alloc: Global) -> Result<Column, Stop>
     ensures steps { IfOk result (λ column.
-        AreSpelled (instructions_of (column_of hart rows.now)) column.steps.items) }
+        AreSpelled text.now (instructions_of (column_of hart rows.now)) column.steps.items) }
     ensures labels { IfOk result (λ column.
         column.labels.items ≡ labels_from 0 (column_of hart rows.now)) }
     ensures once { OnOk result (AreOnce text.now [] (labels_from 0 (column_of hart rows.now))) }
@@ -112,7 +112,7 @@ pub(crate) fn read_cell(text: &[u8], column: &mut Column, cell: &[Word]) -> Resu
 
 /// Reads the instruction of a cell, if it has one.
 fn add_step(text: &[u8], steps: &mut Vec<Written>, instruction: &[Word]) -> Result<(), Stop>
-    ensures { OnOk result (StepAdded instruction.now steps.old.items steps.new.items) }
+    ensures { OnOk result (StepAdded text.now instruction.now steps.old.items steps.new.items) }
 {
     let Some(last) = instruction.last() else {
         return Ok(());

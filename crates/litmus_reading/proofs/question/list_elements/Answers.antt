@@ -4,7 +4,7 @@ use Rattle.litmus_reading.proofs.question.list_elements.Goals as goal
 pub loop-element-preserved : goal.loop-element-preserved
 loop-element-preserved c =
     element_listed _ _ _ _ _ _ _ _ c.elements_of-count.ensures.value c.loop-element-test.true c.loop-element.invariant
-    c.in_ok-index.ensures c.in_ok-list_one.ensures
+    c.index_of.ensures c.in_ok-list_one.ensures
 
 pub returns : goal.returns
 returns c =

@@ -7,8 +7,8 @@ use Rattle.litmus_reading.proofs.thread.read_column.Given as goal
 -- what spells the rest spells, behind what has been read, all
 abbrev pub invariant-loop-rest : goal.invariant-loop-rest
 invariant-loop-rest l = record {
-  steps : (more : List Written) → AreSpelled (instructions_of (column_of l.hart l.rest)) more
-      → AreSpelled (instructions_of (column_of l.hart l.rows)) (l.steps.items ++ more);
+  steps : (more : List Written) → AreSpelled l.text (instructions_of (column_of l.hart l.rest)) more
+      → AreSpelled l.text (instructions_of (column_of l.hart l.rows)) (l.steps.items ++ more);
   labels : l.labels.items ++ labels_from (length l.steps.items) (column_of l.hart l.rest)
       ≡ labels_from 0 (column_of l.hart l.rows);
   once : AreOnce l.text l.labels.items (labels_from (length l.steps.items) (column_of l.hart l.rest))
