@@ -1,15 +1,20 @@
 -- Tokens that are read one behind the other: what stands behind those that were read, and that the next can be.
-use Rattle.std.proofs.Common.{◌≡◌, ℕ, ℤ, pos, List, [], ◌∷◌, ◌++◌, Result, Ok, Err, inl, inr, refl, sym, ap, ◌∙◌, subst}
+use Rattle.std.proofs.Common.{◌≡◌, ℕ, ℤ, pos, List, [], ◌∷◌, ◌++◌, length, Result, Ok, Err, inl, inr, refl, sym, ap, ◌∙◌, subst}
 use Rattle.std.specs.Prelude.{IfOk}
 use Rattle.litmus_words.specs.declared.word.Word.{Word}
 use Rattle.litmus_words.specs.declared.word.Token.{Token}
 use Rattle.litmus_words.specs.declared.word.Token.TheVariants.{Register, Mark}
 use Rattle.litmus_words.specs.declared.word.Mark.TheVariants as mark
-use Rattle.litmus_words.specs.Parts.{IntegerTaken, SpellsInteger}
+use Rattle.litmus_words.specs.Parts.{AddressTaken, IntegerTaken, NumberTaken, SpellsInteger, SpellsNumber}
+use Rattle.litmus_words.specs.Parts.{SpellsAddress as SpellsByteAddress}
 use Rattle.litmus_words.specs.Answered.{Gives}
 use Rattle.litmus_words.specs.declared.refused.Stop.{Stop}
 use Rattle.litmus_words.specs.Tokens.{Begin, Takes, tokens}
 use Rattle.litmus_words.proofs.Taking.{begun, takes_nothing, whole}
+use Rattle.litmus_tests.specs.declared.fence.AccessSet.{AccessSet}
+use Rattle.litmus_tests.specs.declared.fence.Fence.TheVariants.{Sets}
+use Rattle.litmus_reading.specs.declared.instruction.Written.TheVariants.{Fence}
+use Rattle.litmus_reading.specs.Fences.{SpellsFence, SpellsSets}
 use Rattle.litmus_reading.specs.Instructions.{IsLastLabel, ShortTaken, SpellsAddress, SpellsOffset, SpellsShort, base_tokens}
 
 -- a token comes first
@@ -72,6 +77,25 @@ pub integer_of_short : (words rest : List Word) (number : ℤ) → ShortTaken wo
     → IntegerTaken words number rest
 integer_of_short words rest number taken =
     record { text = taken.text; spells = taken.spells.spelled; takes = taken.takes }
+
+pub number_alone : (words : List Word) (number : List Token) (value : ℕ) → SpellsNumber number value
+    → tokens words ≡ number → NumberTaken words value []
+number_alone words number value spells is = record { text = number; spells = spells; takes = whole words number is }
+
+pub address_alone : (words : List Word) (address : List Token) (byte : ℕ) → SpellsByteAddress address byte
+    → tokens words ≡ address → AddressTaken words byte []
+address_alone words address byte spells is = record { text = address; spells = spells; takes = whole words address is }
+
+-- words behind one word
+pub tail_is : (words : List Word) (found one : Word) (behind rest : List Word) → words ≡ found ∷ behind
+    → words ≡ one ∷ rest → behind ≡ rest
+tail_is words found one behind rest is so = let same : found ∷ behind ≡ one ∷ rest = sym is ∙ so in cc
+
+-- a fence that has operands has sets
+pub sets_of : (text : List ℕ) (words : List Word) (before after : AccessSet) → (length words ≡ 0 → ⊥)
+    → SpellsFence text words (Fence (Sets before after)) → SpellsSets text words before after
+sets_of text words before after some (inl none) = absurd (some (ap length none.0))
+sets_of text words before after some (inr sets) = sets
 
 -- the last word of those behind is the last of all
 last_before : (words behind : List Word) (taken : List Token) (label : Word) → Begin taken words behind
@@ -148,6 +172,11 @@ pub ok_so : {A : Type 0} (result : Result A Stop) (P Q : A → Type 0) → ((x :
     → IfOk result Q
 ok_so {A} (Ok x) P Q on it = on x it
 ok_so {A} (Err stop) P Q on it = it
+
+pub ok_both : {A : Type 0} (result : Result A Stop) (P Q R : A → Type 0) → ((x : A) → P x → Q x → R x)
+    → IfOk result P → IfOk result Q → IfOk result R
+ok_both {A} (Ok x) P Q R on it also = on x it also
+ok_both {A} (Err stop) P Q R on it also = it
 
 -- an offset, where no parenthesis comes first
 offset_by : (words : List Word) (offset : ℤ) (base : ℕ) (before : List Token)

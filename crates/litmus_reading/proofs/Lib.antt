@@ -1,3 +1,4 @@
+pub mod Branches
 pub mod Cells
 pub mod Chains
 pub mod Columns
