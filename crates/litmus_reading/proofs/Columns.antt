@@ -1,8 +1,13 @@
 -- A column, a cell more at each turn.
-use Rattle.std.proofs.Common.{◌≡◌, ℕ, ◌+◌, ◌<◌, ◌≤◌, List, [], ◌∷◌, ◌++◌, length, take, get_or, refl, sym, ap, ◌∙◌, subst, arith}
+use Rattle.std.proofs.Common.{◌≡◌, ℕ, zero, suc, ◌+◌, ◌<◌, ◌≤◌, List, [], ◌∷◌, ◌++◌, length, take, get_or, refl, sym, ap, ◌∙◌, subst, arith}
 use Rattle.std.proofs.Common.{Bool, true, false, if◌then◌else◌, Option, Some, None, drop, append_assoc, append-nil, length-append, drop_of_length-le}
 use Rattle.std.proofs.lemmas.List.{take_more, take_all}
+use Rattle.std.proofs.lemmas.Option.{slice_get_within}
+use Rattle.std.specs.Prelude.{slice_get}
 use Rattle.litmus_tests.specs.declared.step.LitmusStep.{LitmusStep}
+use Rattle.litmus_tests.specs.declared.step.LitmusStep.TheVariants as step_of
+use Rattle.litmus_tests.specs.declared.fence.Fence.TheVariants.{TotalStoreOrder}
+use Rattle.litmus_reading.specs.Instructions.{SpellsInstruction}
 use Rattle.litmus_words.specs.declared.word.Word.{Word}
 use Rattle.litmus_words.specs.Bytes.{same_bytes}
 use Rattle.litmus_reading.specs.declared.instruction.Written.{Written}
@@ -12,18 +17,18 @@ use Rattle.litmus_reading.specs.Threads.{instruction_of, instructions_of, if_som
 use Rattle.litmus_reading.specs.Threads.{target_of, AreOnce, AreSpelled, SpellsThread, StepAdded, IsStepOf, AreStepsOf}
 use Rattle.litmus_reading.proofs.Naming.{drop_here}
 
-append_spelled : {text : List ℕ} (a b : List (List Word)) (x y : List Written) → AreSpelled text a x → AreSpelled text b y
+append_spelled : (text : List ℕ) (a b : List (List Word)) (x y : List Written) → AreSpelled text a x → AreSpelled text b y
     → AreSpelled text (a ++ b) (x ++ y)
-append_spelled {text} [] b [] y h k = k
-append_spelled {text} [] b (w ∷ x) y h k = absurd h
-append_spelled {text} (i ∷ a) b [] y h k = absurd h
-append_spelled {text} (i ∷ a) b (w ∷ x) y h k = (h.0, append_spelled a b x y h.1 k)
+append_spelled text [] b [] y h k = k
+append_spelled text [] b (w ∷ x) y h k = absurd h
+append_spelled text (i ∷ a) b [] y h k = absurd h
+append_spelled text (i ∷ a) b (w ∷ x) y h k = (h.0, append_spelled text a b x y h.1 k)
 
-as_many : {text : List ℕ} (a : List (List Word)) (x : List Written) → AreSpelled text a x → length x ≡ length a
-as_many {text} [] [] h = refl
-as_many {text} [] (w ∷ x) h = absurd h
-as_many {text} (i ∷ a) [] h = absurd h
-as_many {text} (i ∷ a) (w ∷ x) h = let rest = as_many a x h.1 in omega (arith, rest)
+as_many : (text : List ℕ) (a : List (List Word)) (x : List Written) → AreSpelled text a x → length x ≡ length a
+as_many text [] [] h = refl
+as_many text [] (w ∷ x) h = absurd h
+as_many text (i ∷ a) [] h = absurd h
+as_many text (i ∷ a) (w ∷ x) h = let rest = as_many text a x h.1 in omega (arith, rest)
 
 pub steps_more : {text : List ℕ} (all : List (List Word)) (column cells : List (List Word)) (cell : List Word)
     (steps after : List Written) → column ≡ cell ∷ cells
@@ -35,14 +40,14 @@ steps_more {text} all column cells cell steps after next before added more spell
     (sym (append_assoc steps added.written more) ∙ ap (λ (t : List Written). t ++ more) (sym added.added))
     (before (added.written ++ more)
     (subst (λ (t : List (List Word)). AreSpelled text (instructions_of t) (added.written ++ more)) (sym next)
-    (append_spelled (if_some (instruction_of cell)) (instructions_of cells) added.written more added.spelled spelled)))
+    (append_spelled text (if_some (instruction_of cell)) (instructions_of cells) added.written more added.spelled spelled)))
 
 -- how many steps there are, with those of one cell more
 counted : {text : List ℕ} (steps after : List Written) (cell : List Word) → StepAdded text (instruction_of cell) steps after
     → length after ≡ length steps + length (if_some (instruction_of cell))
 counted {text} steps after cell added =
     ap length added.added ∙ length-append steps added.written
-    ∙ ap (λ (n : ℕ). length steps + n) (as_many (if_some (instruction_of cell)) added.written added.spelled)
+    ∙ ap (λ (n : ℕ). length steps + n) (as_many text (if_some (instruction_of cell)) added.written added.spelled)
 
 append_once : (text : List ℕ) (before a b : List Label) → AreOnce text before a → AreOnce text (before ++ a) b
     → AreOnce text before (a ++ b)
@@ -110,10 +115,10 @@ no_rows hart [] none = refl
 no_rows hart (word ∷ rest) none = absurd (omega (arith, none))
 
 -- the column is over
-pub steps_end : {text : List ℕ} (all : List (List Word)) (column : List (List Word)) (steps : List Written) → column ≡ []
+pub steps_end : (text : List ℕ) (all : List (List Word)) (column : List (List Word)) (steps : List Written) → column ≡ []
     → ((more : List Written) → AreSpelled text (instructions_of column) more → AreSpelled text all (steps ++ more))
     → AreSpelled text all steps
-steps_end {text} all column steps none before =
+steps_end text all column steps none before =
     subst (AreSpelled text all) (append-nil steps)
     (before [] (subst (λ (t : List (List Word)). AreSpelled text (instructions_of t) []) (sym none) tt))
 
@@ -177,3 +182,46 @@ spelled_thread text rows hart written all labels held steps spelled are once sam
       AreStepsOf text (labels_from 0 (column_of hart rows)) t steps) as_written
       (subst (λ (t : List Label). AreStepsOf text t all steps) (same ∙ are) so);
 }
+
+-- one step for each instruction
+pub as_many_steps : (text : List ℕ) (labels : List Label) (x : List Written) (a : List LitmusStep)
+    → AreStepsOf text labels x a → length x ≡ length a
+as_many_steps text labels [] [] h = refl
+as_many_steps text labels [] (s ∷ a) h = absurd h
+as_many_steps text labels (w ∷ x) [] h = absurd h
+as_many_steps text labels (w ∷ x) (s ∷ a) h = let rest = as_many_steps text labels x a h.1 in omega (arith, rest)
+
+pub step_at : (text : List ℕ) (labels : List Label) (x : List Written) (a : List LitmusStep) (i : ℕ) (d : Written)
+    (e : LitmusStep) → i < length x → AreStepsOf text labels x a
+    → IsStepOf text labels (get_or x i d) (get_or a i e)
+step_at text labels [] a i d e inside h = absurd (omega (arith, inside))
+step_at text labels (w ∷ x) [] i d e inside h = absurd h
+step_at text labels (w ∷ x) (s ∷ a) zero d e inside h = h.0
+step_at text labels (w ∷ x) (s ∷ a) (suc i) d e inside h = step_at text labels x a i d e (omega (arith, inside)) h.1
+
+pub some_step : LitmusStep
+some_step = step_of.Fence TotalStoreOrder
+
+pub so_far_more : (text : List ℕ) (labels : List Label) (x : List Written) (a found after : List LitmusStep)
+    (i : ℕ) (step : LitmusStep) → i < length x → AreStepsOf text labels x a → found ≡ take i a
+    → step ≡ get_or a i some_step → after ≡ found ++ step ∷ [] → after ≡ take (i + 1) a
+so_far_more text labels x a found after i step inside h so_far is added =
+    let many = as_many_steps text labels x a h in
+    added ∙ (λ k. so_far k ++ is k ∷ []) ∙ sym (take_more a i some_step (omega (arith, many, inside)))
+
+pub so_far_all : (text : List ℕ) (labels : List Label) (x : List Written) (a found : List LitmusStep) (i : ℕ)
+    → length x ≤ i → AreStepsOf text labels x a → found ≡ take i a → found ≡ a
+so_far_all text labels x a found i past h so_far =
+    let many = as_many_steps text labels x a h in so_far ∙ take_all i a (omega (arith, many, past))
+
+-- the one instruction of a cell that has one
+pub one_spelled : (text : List ℕ) (instruction : List Word) (written : List Written)
+    → 0 < length instruction → AreSpelled text (if_some instruction) written
+    → (one : Written) × (written ≡ one ∷ []) × SpellsInstruction text instruction one
+one_spelled text [] written some h = absurd (omega (arith, some))
+one_spelled text (word ∷ words) [] some h = absurd h
+one_spelled text (word ∷ words) (one ∷ []) some h = (one, refl, h.0)
+one_spelled text (word ∷ words) (one ∷ other ∷ more) some h = absurd h.1
+
+pub some_of : (words : List Word) (i : ℕ) (word : Word) → slice_get words i ≡ Some word → 0 < length words
+some_of words i word there = let inside = slice_get_within words i word there in omega (arith, inside)

@@ -11,7 +11,7 @@ use Rattle.litmus_words.specs.Bytes.{same_bytes}
 use Rattle.litmus_reading.specs.declared.instruction.Written.{Written}
 use Rattle.litmus_reading.specs.declared.instruction.Written.TheVariants.{Straight, Constant, Branch, Fence}
 use Rattle.litmus_reading.specs.declared.thread.Label.{Label}
-use Rattle.litmus_reading.specs.Instructions.{SpellsInstruction}
+use Rattle.litmus_reading.specs.Instructions.{SpellsInstruction, is_label}
 use Rattle.litmus_reading.specs.Rows.{column_of}
 
 abbrev pub is_colon : Token → Bool
@@ -52,11 +52,16 @@ target_of text [] word = None
 target_of text (label ∷ labels) word =
     if same_bytes text label.word word then Some label.place else target_of text labels word
 
+-- A word that can be the name of a label, and of none of these.
+pub record IsNewLabel (text : List ℕ) (before : List Label) (word : Word) : Type 0 where
+  pub named : is_label word.token ≡ true
+  pub new : target_of text before word ≡ None
+
 -- None of these labels stands before it already.
 abbrev pub AreOnce : List ℕ → List Label → List Label → Type 0
 AreOnce text before [] = Unit {0}
 AreOnce text before (label ∷ labels) =
-    (target_of text before label.word ≡ None) × AreOnce text (before ++ label ∷ []) labels
+    IsNewLabel text before label.word × AreOnce text (before ++ label ∷ []) labels
 
 -- Each instruction is spelled by its words.
 abbrev pub AreSpelled : List ℕ → List (List Word) → List Written → Type 0

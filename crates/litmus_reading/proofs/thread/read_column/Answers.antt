@@ -18,7 +18,7 @@ loop-rest-preserved c =
     c.add_step.new.steps.items c.loop-rest.labels.items c.add_label.new.labels.items c.len.result
     (next_row c.args.hart c.loop-rest.rest.now c.cut.result.0.now c.cut.result.1.now
     (grind (arith, tests, c.loop-rest-test.true, c.is_empty.ensures)) c.cut.ensures.cut
-    c.cut.ensures.first) c.cell_of-cell.ensures c.instruction_of-instruction.ensures c.in_ok-add_step.ensures
+    c.cut.ensures.first) c.cell_of-cell.ensures c.instruction_of-instruction.ensures c.in_ok-add_step.ensures.added
     (c.len.ensures ∙ c.loop-rest.steps.ok.0) c.in_ok-add_label.ensures.added c.in_ok-add_label.ensures.once in
     record {
       steps = steps_more _ _ _ _ _ _ it.next c.loop-rest.invariant.steps it.added;
@@ -28,7 +28,7 @@ loop-rest-preserved c =
 
 pub returns-clause-steps : goal.returns-clause-steps
 returns-clause-steps c =
-    steps_end _ _ _ (no_rows c.args.hart c.loop-rest.rest.now
+    steps_end c.args.text.now _ _ _ (no_rows c.args.hart c.loop-rest.rest.now
     (grind (arith, tests, c.loop-rest-test.false, c.is_empty.ensures))) c.loop-rest.invariant.steps
 
 pub returns-clause-labels : goal.returns-clause-labels
