@@ -1,14 +1,15 @@
 -- Tokens that are read one behind the other: what stands behind those that were read, and that the next can be.
 use Rattle.std.proofs.Common.{◌≡◌, ℕ, ℤ, pos, List, [], ◌∷◌, ◌++◌, length, Result, Ok, Err, inl, inr, refl, sym, ap, ◌∙◌, subst}
-use Rattle.std.specs.Prelude.{IfOk}
+use Rattle.std.specs.Prelude.{IfOk, IsErrAnd}
 use Rattle.litmus_words.specs.declared.word.Word.{Word}
 use Rattle.litmus_words.specs.declared.word.Token.{Token}
 use Rattle.litmus_words.specs.declared.word.Token.TheVariants.{Register, Mark}
 use Rattle.litmus_words.specs.declared.word.Mark.TheVariants as mark
 use Rattle.litmus_words.specs.Parts.{AddressTaken, IntegerTaken, NumberTaken, SpellsInteger, SpellsNumber}
 use Rattle.litmus_words.specs.Parts.{SpellsAddress as SpellsByteAddress}
-use Rattle.litmus_words.specs.Answered.{Gives}
+use Rattle.litmus_words.specs.Answered.{Gives, GivesOrMemory}
 use Rattle.litmus_words.specs.declared.refused.Stop.{Stop}
+use Rattle.litmus_words.specs.declared.refused.Stop.TheVariants.{Memory, Fault}
 use Rattle.litmus_words.specs.Tokens.{Begin, Takes, tokens}
 use Rattle.litmus_words.proofs.Taking.{begun, takes_nothing, whole}
 use Rattle.litmus_tests.specs.declared.fence.AccessSet.{AccessSet}
@@ -196,3 +197,15 @@ pub offset_taken : (words : List Word) (offset : ℤ) (base : ℕ)
     → SpellsAddress (tokens words) offset base → (rest : List Word) × ShortTaken words offset rest
     × (tokens rest ≡ base_tokens base)
 offset_taken words offset base off it = offset_by words offset base it.before off it.first it.spelled
+
+-- an error that is handed on
+other_error : {A B : Type 0} (P : A → Type 0) (Q : B → Type 0) (stop : Stop) → GivesOrMemory (Err stop) Q
+    → GivesOrMemory (Err stop) P
+other_error {A} {B} P Q Memory it = tt
+other_error {A} {B} P Q (Fault at fault) it = it
+
+pub passed_on : {A B : Type 0} (result : Result A Stop) (stop : Stop) (P : A → Type 0) (Q : B → Type 0)
+    → IsErrAnd result (λ found. found ≡ stop) → GivesOrMemory (Err stop) Q → GivesOrMemory result P
+passed_on {A} {B} (Ok x) stop P Q is it = absurd is
+passed_on {A} {B} (Err found) stop P Q is it =
+    subst (λ (s : Stop). GivesOrMemory (Err s) P) (sym is) (other_error P Q stop it)

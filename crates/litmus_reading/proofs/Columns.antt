@@ -225,3 +225,120 @@ one_spelled text (word ∷ words) (one ∷ other ∷ more) some h = absurd h.1
 
 pub some_of : (words : List Word) (i : ℕ) (word : Word) → slice_get words i ≡ Some word → 0 < length words
 some_of words i word there = let inside = slice_get_within words i word there in omega (arith, inside)
+
+-- what all cells say, those that are left say behind what has been read
+pub record SpelledInParts (text : List ℕ) (a b : List (List Word)) (x : List Written) : Type 0 where
+  pub front : List Written
+  pub back : List Written
+  pub is : x ≡ front ++ back
+  pub before : AreSpelled text a front
+  pub behind : AreSpelled text b back
+
+pub split_spelled : (text : List ℕ) (a b : List (List Word)) (x : List Written) → AreSpelled text (a ++ b) x
+    → SpelledInParts text a b x
+split_spelled text [] b x h = record { front = []; back = x; is = refl; before = tt; behind = h }
+split_spelled text (i ∷ a) b [] h = absurd h
+split_spelled text (i ∷ a) b (w ∷ x) h =
+    let rest = split_spelled text a b x h.1 in
+    record {
+      front = w ∷ rest.front;
+      back = rest.back;
+      is = ap (λ (t : List Written). w ∷ t) rest.is;
+      before = (h.0, rest.before);
+      behind = rest.behind;
+    }
+
+pub record Left (text : List ℕ) (column : List (List Word)) (steps all : List Written) : Type 0 where
+  pub more : List Written
+  pub is : all ≡ steps ++ more
+  pub spelled : AreSpelled text (instructions_of column) more
+
+pub first_left : (text : List ℕ) (column cells : List (List Word)) (cell : List Word) (steps all : List Written)
+    → column ≡ cell ∷ cells → (it : Left text column steps all)
+    → SpelledInParts text (if_some (instruction_of cell)) (instructions_of cells) it.more
+first_left text column cells cell steps all next it =
+    split_spelled text (if_some (instruction_of cell)) (instructions_of cells) it.more
+    (subst (λ (t : List (List Word)). AreSpelled text (instructions_of t) it.more) next it.spelled)
+
+pub left_more : (text : List ℕ) (column cells : List (List Word)) (cell : List Word) (steps after all : List Written)
+    (it : Left text column steps all)
+    (parts : SpelledInParts text (if_some (instruction_of cell)) (instructions_of cells) it.more)
+    → after ≡ steps ++ parts.front → Left text cells after all
+left_more text column cells cell steps after all it parts added = record {
+  more = parts.back;
+  is = it.is ∙ ap (λ (t : List Written). steps ++ t) parts.is ∙ sym (append_assoc steps parts.front parts.back)
+      ∙ ap (λ (t : List Written). t ++ parts.back) (sym added);
+  spelled = parts.behind;
+}
+
+pub left_few : (text : List ℕ) (column cells : List (List Word)) (cell : List Word) (steps all : List Written)
+    (most : ℕ) (it : Left text column steps all)
+    (parts : SpelledInParts text (if_some (instruction_of cell)) (instructions_of cells) it.more)
+    → length all ≤ most → length steps + length parts.front ≤ most
+left_few text column cells cell steps all most it parts few =
+    let whole = ap length it.is ∙ length-append steps it.more in
+    let front = ap length parts.is ∙ length-append parts.front parts.back in
+    omega (arith, whole, front, few)
+
+no_spelled : (text : List ℕ) (more : List Written) → AreSpelled text [] more → more ≡ []
+no_spelled text [] h = refl
+no_spelled text (w ∷ more) h = absurd h
+
+pub none_left : (text : List ℕ) (column : List (List Word)) (steps all : List Written) → column ≡ []
+    → Left text column steps all → steps ≡ all
+none_left text column steps all none it =
+    let no_more = no_spelled text it.more
+    (subst (λ (t : List (List Word)). AreSpelled text (instructions_of t) it.more) none it.spelled) in
+    sym (append-nil steps) ∙ ap (λ (t : List Written). steps ++ t) (sym no_more) ∙ sym it.is
+
+pub split_once : (text : List ℕ) (before a b : List Label) → AreOnce text before (a ++ b)
+    → AreOnce text before a × AreOnce text (before ++ a) b
+split_once text before [] b h = (tt, subst (λ (t : List Label). AreOnce text t b) (sym (append-nil before)) h)
+split_once text before (l ∷ a) b h =
+    let rest = split_once text (before ++ l ∷ []) a b h.1 in
+    (
+      (h.0, rest.0),
+      subst (λ (t : List Label). AreOnce text t b) (append_assoc before (l ∷ []) a) rest.1,
+    )
+
+pub first_once : (text : List ℕ) (column cells : List (List Word)) (cell : List Word) (place : ℕ)
+    (labels : List Label) → column ≡ cell ∷ cells → AreOnce text labels (labels_from place column)
+    → AreOnce text labels (label_at place cell)
+    × AreOnce text (labels ++ label_at place cell) (labels_from (place + length (if_some (instruction_of cell))) cells)
+first_once text column cells cell place labels next once =
+    split_once text labels (label_at place cell) (labels_from (place + length (if_some (instruction_of cell))) cells)
+    (subst (λ (t : List (List Word)). AreOnce text labels (labels_from place t)) next once)
+
+pub once_left : (text : List ℕ) (column cells : List (List Word)) (cell : List Word) (steps after : List Written)
+    (labels later : List Label) → column ≡ cell ∷ cells → AreOnce text labels (labels_from (length steps) column)
+    → StepAdded text (instruction_of cell) steps after → later ≡ labels ++ label_at (length steps) cell
+    → AreOnce text later (labels_from (length after) cells)
+once_left text column cells cell steps after labels later next once added is =
+    subst (λ (n : ℕ). AreOnce text later (labels_from n cells)) (sym (counted steps after cell added))
+    (subst (λ (t : List Label). AreOnce text t
+    (labels_from (length steps + length (if_some (instruction_of cell))) cells)) (sym is)
+    (first_once text column cells cell (length steps) labels next once).1)
+
+pub cut_cell : (hart : ℕ) (rest row behind cell : List Word)
+    → column_of hart rest ≡ cell_at hart row ∷ column_of hart behind → cell ≡ cell_at hart row
+    → column_of hart rest ≡ cell ∷ column_of hart behind
+cut_cell hart rest row behind cell next cut = next ∙ ap (λ (t : List Word). t ∷ column_of hart behind) (sym cut)
+
+pub once_at : (text : List ℕ) (column cells : List (List Word)) (cell : List Word) (steps : List Written) (place : ℕ)
+    (labels : List Label) → column ≡ cell ∷ cells → place ≡ length steps
+    → AreOnce text labels (labels_from (length steps) column) → AreOnce text labels (label_at place cell)
+once_at text column cells cell steps place labels next many once =
+    subst (λ (n : ℕ). AreOnce text labels (label_at n cell)) (sym many)
+    (first_once text column cells cell (length steps) labels next once).0
+
+pub as_few_written : (text : List ℕ) (labels : List Label) (x : List Written) (a : List LitmusStep) (most : ℕ)
+    → AreStepsOf text labels x a → length a ≤ most → length x ≤ most
+as_few_written text labels x a most are few = let many = as_many_steps text labels x a are in omega (arith, many, few)
+
+-- steps of what is lent
+pub lent_steps : (text : List ℕ) (labels lent found : List Label) (all written : List Written)
+    (steps : List LitmusStep) → found ≡ labels → lent ≡ found → all ≡ written → AreStepsOf text labels written steps
+    → AreStepsOf text lent all steps
+lent_steps text labels lent found all written steps are same same_all so =
+    subst (λ (t : List Label). AreStepsOf text t all steps) (sym (same ∙ are))
+    (subst (λ (t : List Written). AreStepsOf text labels t steps) (sym same_all) so)
