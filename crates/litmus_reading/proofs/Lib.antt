@@ -11,6 +11,7 @@ pub mod Looking
 pub mod Made
 pub mod Naming
 pub mod Remembered
+pub mod Tables
 pub mod Together
 pub mod Told
 pub mod Wholes

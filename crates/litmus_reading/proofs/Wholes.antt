@@ -20,7 +20,7 @@ use Rattle.litmus_reading.specs.declared.start.Entry.{Entry}
 use Rattle.litmus_reading.specs.Names.{elements_of}
 use Rattle.litmus_reading.specs.Rows.{ended_by, is_semicolon}
 use Rattle.litmus_reading.specs.Starts.{starts_of}
-use Rattle.litmus_reading.specs.Texts.{AreElementsFrom, AreHeads, AreLocations, AreThreads, IsBraced, IsClosedAt, IsElementOf, IsHead, IsHeadRow, IsTable, HasCells, LocationsAdded, one_less, open_after, open_behind}
+use Rattle.litmus_reading.specs.Texts.{AreClosed, AreElementsFrom, AreHeads, AreLocations, AreThreads, IsBraced, IsClosedAt, IsElementOf, IsHead, IsHeadRow, IsTable, HasCells, LocationsAdded, one_less, open_after, open_behind}
 use Rattle.litmus_reading.specs.Threads.{SpellsThread}
 use Rattle.litmus_reading.proofs.Cells.{row_ended}
 use Rattle.litmus_reading.proofs.Naming.{drop_here, pushed}
@@ -131,9 +131,10 @@ pub record RowsBefore (harts : ℕ) (words rest : List Word) : Type 0 where
   pub ended : (others : List Word)
       → ended_by is_semicolon (rows ++ others) ≡ ended_by is_semicolon rows ++ ended_by is_semicolon others
   pub cells : All (HasCells harts) (ended_by is_semicolon rows)
+  pub closed : AreClosed rows
 
 pub no_row : (harts : ℕ) (words : List Word) → RowsBefore harts words words
-no_row harts words = record { rows = []; spelled = refl; ended = λ others. refl; cells = All-nil (HasCells harts) }
+no_row harts words = record { rows = []; spelled = refl; ended = λ others. refl; cells = All-nil (HasCells harts); closed = inl refl }
 
 row_behind : (harts : ℕ) (words rest row behind : List Word) (stop : Word) → RowsBefore harts words rest
     → rest ≡ row ++ stop ∷ behind → stop.token ≡ Mark mark.Semicolon → LacksMark mark.Semicolon row
@@ -159,6 +160,12 @@ row_behind harts words rest row behind stop so_far is closes lacks cells =
       cells = subst (All (HasCells harts)) (sym one)
           (All-append (HasCells harts) (ended_by is_semicolon so_far.rows) (row ∷ []) so_far.cells
           (All-cons (HasCells harts) row [] cells (All-nil (HasCells harts))));
+      closed = inr (record {
+        front = so_far.rows ++ row;
+        last = stop;
+        spelled = sym (append_assoc so_far.rows row (stop ∷ []));
+        closes = closes;
+      });
     }
 
 pub rows_more : (harts : ℕ) (words rest row behind : List Word) → RowsBefore harts words rest
@@ -183,6 +190,7 @@ table harts words rest count so_far many =
     ∙ ap (λ (n : ℕ). take n (so_far.rows ++ rest)) same ∙ ap (take count) (sym so_far.spelled) in
     record {
       spelled = so_far.spelled ∙ ap (λ (t : List Word). t ++ rest) front;
+      closed = subst AreClosed front so_far.closed;
       cells = subst (λ (t : List Word). All (HasCells harts) (ended_by is_semicolon t)) front so_far.cells;
     }
 

@@ -1,5 +1,5 @@
 -- A whole test: the start in braces, the row of harts, the rows below it, and the question.
-use Rattle.std.specs.Prelude.{◌≡◌, ℕ, zero, suc, ◌+◌, ◌*◌, ◌/◌, ◌%◌, Bool, true, false, if◌then◌else◌, ◌==◌, List, [], ◌∷◌, ◌++◌, ◌≤◌, length, map, take, All}
+use Rattle.std.specs.Prelude.{◌≡◌, ◌⊎◌, ℕ, zero, suc, ◌+◌, ◌*◌, ◌/◌, ◌%◌, Bool, true, false, if◌then◌else◌, ◌==◌, List, [], ◌∷◌, ◌++◌, ◌≤◌, length, map, take, All}
 use Rattle.std.specs.Prelude.{Option, Some, None, option_and_then, slice_get}
 use Rattle.std.specs.List.{list_any}
 use Rattle.litmus_tests.specs.declared.test.LitmusTest.{LitmusTest}
@@ -119,8 +119,19 @@ AreThreads text rows entries hart (thread ∷ threads) = (thread.starts.items �
 abbrev pub HasCells : ℕ → List Word → Type 0
 HasCells harts row = length (parted_by is_bar row) ≡ harts
 
+-- A `;` stands behind the last.
+pub record EndsInSemicolon (rows : List Word) : Type 0 where
+  pub front : List Word
+  pub last : Word
+  pub spelled : rows ≡ front ++ last ∷ []
+  pub closes : last.token ≡ Mark mark.Semicolon
+
+abbrev pub AreClosed : List Word → Type 0
+AreClosed rows = (rows ≡ []) ⊎ EndsInSemicolon rows
+
 pub record IsTable (harts : ℕ) (words rows asked : List Word) : Type 0 where
   pub spelled : words ≡ rows ++ asked
+  pub closed : AreClosed rows
   pub cells : All (HasCells harts) (ended_by is_semicolon rows)
 
 -- The words are those of the test, in which the names of locations are known.
