@@ -5,6 +5,7 @@ pub mod Columns
 pub mod Conditions
 pub mod Declaring
 pub mod Entries
+pub mod Fitted
 pub mod Giving
 pub mod Listing
 pub mod Looking

@@ -1,5 +1,6 @@
 pub mod Declarations
 pub mod Fences
+pub mod Fitting
 pub mod Grammar
 pub mod Heads
 pub mod Instructions

@@ -1,7 +1,11 @@
 //! What an entry of the start gives: the value of a register or of a location, or the elements of an array.
 
-ghost use Rattle.std.specs.Prelude.{◌≡◌, ◌++◌, ◌∷◌, [], true, false, IfOk, OnOk};
-ghost use Rattle.litmus_words.specs.Parts.{ValueTaken};
+ghost use Rattle.std.specs.Prelude.{◌≡◌, ◌++◌, ◌∷◌, [], List, true, false, IfOk, OnOk};
+ghost use Rattle.litmus_words.specs.Answered.{Gives};
+ghost use Rattle.litmus_words.specs.Parts.{NoIndex, NoOffset, ValueTaken};
+ghost use Rattle.litmus_words.specs.declared.word.Word.{Word as AnyWord};
+ghost use Rattle.litmus_tests.specs.declared.value.Value.{Value as AnyValue};
+ghost use Rattle.litmus_reading.specs.Fitting.{GivenValueTaken};
 ghost use Rattle.litmus_reading.specs.declared.start.Entry.TheVariants.{Location};
 ghost use Rattle.litmus_reading.specs.Starts.{ContentsTaken, CountTaken, ElementsTaken, GivenTaken};
 
@@ -35,14 +39,25 @@ pub(crate) fn read_given(words: &[Word]) -> (Given, &[Word])
 
 /// Reads a value that is given so.
 pub(crate) fn read_value(given: Given, words: &[Word], end: usize) -> Result<(Value, &[Word]), Stop>
-    ensures { IfOk result (λ p. ValueTaken words.now p.0 p.1.now) }
+    ensures taken { IfOk result (λ p. GivenValueTaken given words.now p.0 p.1.now) }
+    ensures only { (value : AnyValue) → (rest : List AnyWord) → GivenValueTaken given words.now value rest
+        → NoIndex rest → NoOffset rest → Gives result (λ p. (p.0 ≡ value) × (p.1.now ≡ rest)) }
+{
+    check_given(given, words, end)?;
+    value(words, end)
+}
+
+/// Refuses a value that doesn't fit where it is given.
+fn check_given(given: Given, words: &[Word], end: usize) -> Result<(), Stop>
+    ensures fits { OnOk result ((value : AnyValue) → (rest : List AnyWord) → ValueTaken words.now value rest
+        → GivenValueTaken given words.now value rest) }
+    ensures only { (value : AnyValue) → (rest : List AnyWord) → GivenValueTaken given words.now value rest
+        → Gives result (λ _. Unit {0}) }
 {
     if given.is_pointer {
-        check_pointer(words, given.number_type.width)?;
-    } else {
-        check_width(words, given.number_type.width, end)?;
+        return check_pointer(words, given.number_type.width);
     }
-    value(words, end)
+    check_width(words, given.number_type.width, end)
 }
 
 /// Reads what a location holds, or the elements of an array.
