@@ -7,10 +7,15 @@ use Rattle.litmus_words.specs.declared.refused.Stop.{Stop}
 use Rattle.litmus_words.specs.declared.word.{Word.Word as AnyWord, Declared.Declared}
 use Rattle.litmus_words.specs.declared.word.Token.{Token}
 use Rattle.litmus_words.specs.declared.word.Token.TheVariants.{Location}
-use Rattle.litmus_words.specs.Parts.{AddressTaken, IntegerTaken, NumberTaken, SpellsByte, SpellsInteger, SpellsValue, ValueTaken}
+use Rattle.litmus_words.specs.declared.word.Token.TheVariants as token
+use Rattle.litmus_words.specs.declared.word.Mark.TheVariants as mark
+use Rattle.litmus_tests.specs.declared.condition.Observed.{Observed}
+use Rattle.litmus_tests.specs.declared.condition.Observed.TheVariants as observed
+use denote.Bor.{Bor}
+use Rattle.litmus_words.specs.Parts.{AddressTaken, IntegerTaken, LocationTaken, NoIndex, NumberTaken, ObservedTaken, SpellsByte, SpellsInteger, SpellsValue, ValueTaken}
 use Rattle.litmus_words.specs.Tokens.{Takes}
 use Rattle.litmus_words.proofs.Only.{address_parts, integer_of}
-use Rattle.litmus_words.proofs.Taking.{begins_by, same_first}
+use Rattle.litmus_words.proofs.Taking.{begins_by, first_taken, same_first}
 use Rattle.watched_outcomes.specs.declared.watch.Width.{Width}
 use Rattle.watched_outcomes.specs.declared.watch.Width.TheVariants.{Byte, Half, Word}
 use Rattle.litmus_reading.specs.declared.contents.Given.{Given}
@@ -152,3 +157,18 @@ pub value_of_given : (given : Given) (words rest : List AnyWord) (value : Value)
     → GivenValueTaken given words value rest → ValueTaken words value rest
 value_of_given given words rest value taken =
     record { text = taken.text; spells = taken.spells; takes = taken.takes }
+
+-- what is looked at, where no number comes first, is a location
+pub place_only : (words rest behind : List AnyWord) (one : Observed) (word : AnyWord)
+    (result : Result (Observed × Bor (List AnyWord)) Stop) → words ≡ word ∷ behind
+    → ((hart : ℕ) → word.token ≡ token.Number hart → ⊥)
+    → ((index : ℕ) (rest : List AnyWord) → LocationTaken words index rest → NoIndex rest
+    → Gives result (λ p. (p.0 ≡ observed.Location index) × (p.1.now ≡ rest)))
+    → ObservedTaken words one rest → NoIndex rest → Gives result (λ p. (p.0 ≡ one) × (p.1.now ≡ rest))
+place_only words rest behind (observed.Location index) word result is off only taken over =
+    only index rest (record { text = taken.text; spells = taken.spells; takes = taken.takes }) over
+place_only words rest behind (observed.Register hart register) word result is off only taken over =
+    let parts = begins_by words rest (token.Number hart)
+    (token.Mark mark.Colon ∷ token.Register register ∷ [])
+    (subst (λ (t : List Token). Takes words t rest) taken.spells taken.takes) in
+    absurd (off hart (first_taken words behind parts.between word (token.Number hart) is parts.before).0)

@@ -3,7 +3,8 @@ use Rattle.std.specs.Prelude.{◌≡◌, ◌⊎◌, true, false, ℤ, pos, neg_�
 use Rattle.litmus_tests.specs.declared.value.Value.{Value}
 use Rattle.litmus_tests.specs.declared.value.Value.TheVariants.{Number, Address}
 use Rattle.litmus_words.specs.declared.word.Token.{Token}
-use Rattle.litmus_words.specs.declared.word.Token.TheVariants.{Location}
+use Rattle.litmus_words.specs.declared.word.Token.TheVariants.{Location, Mark}
+use Rattle.litmus_words.specs.declared.word.Mark.TheVariants as mark
 use Rattle.litmus_words.specs.declared.word.{Word.Word as AnyWord, Declared.Declared}
 use Rattle.litmus_words.specs.Parts.{SpellsInteger, SpellsValue}
 use Rattle.litmus_words.specs.Tokens.{Takes}
@@ -39,3 +40,9 @@ pub record GivenValueTaken (given : Given) (words : List AnyWord) (value : Value
   pub spells : SpellsValue text value
   pub fits : FitsGiven given text value
   pub takes : Takes words text rest
+
+-- How wide what is looked at is: `x`, `[x]` and `x[1]` as their location says, a register as a word.
+abbrev pub width_at : List Token → Width
+width_at (Location declared ∷ others) = declared.number_type.width
+width_at (Mark mark.LeftBracket ∷ Location declared ∷ others) = declared.number_type.width
+width_at text = Word

@@ -1,7 +1,12 @@
 //! Conditions, by recursive descent: `<=>` of `=>` of `\/` of `/\` of what stands alone. The recursion is as deep as
 //! `not` and parentheses are nested, and as there are terms before a `=>`; both are bounded.
 
-ghost use Rattle.std.specs.Prelude.{◌<◌, IfOk};
+ghost use Rattle.std.specs.Prelude.{◌≡◌, ◌<◌, List, ℕ, IfOk};
+ghost use Rattle.litmus_words.specs.Answered.{Gives};
+ghost use Rattle.litmus_words.specs.declared.word.Word.{Word as AnyWord};
+ghost use Rattle.litmus_tests.specs.declared.condition.Observed.{Observed as AnyObserved};
+ghost use Rattle.litmus_tests.specs.declared.condition.Observed.TheVariants as observed;
+ghost use Rattle.litmus_reading.specs.Questions.{IsThere};
 ghost use Rattle.litmus_reading.specs.Grammar.{
   ConditionTaken,
   IsNegation,
@@ -10,7 +15,7 @@ ghost use Rattle.litmus_reading.specs.Grammar.{
   IsImplication,
   IsEquivalence,
 };
-ghost use Rattle.litmus_words.specs.Parts.{ObservedTaken};
+ghost use Rattle.litmus_words.specs.Parts.{LocationTaken, NoIndex, ObservedTaken};
 ghost use Rattle.litmus_tests.specs.declared.condition.Condition.{Holds};
 
 use crate::fitting::{check_width, width_at};
@@ -210,12 +215,14 @@ pub(crate) fn read_observed<'a>(
     asked: &Asked,
     words: &'a [Word],
 ) -> Result<(Observed, &'a [Word]), Stop>
-    ensures { IfOk result (λ p. ObservedTaken words.now p.0 p.1.now) }
+    ensures taken { IfOk result (λ p. ObservedTaken words.now p.0 p.1.now) }
+    ensures there { IfOk result (λ p. IsThere asked.now.harts p.0) }
+    ensures only { (one : AnyObserved) → (rest : List AnyWord) → ObservedTaken words.now one rest
+        → IsThere asked.now.harts one → NoIndex rest → Gives result (λ p. (p.0 ≡ one) × (p.1.now ≡ rest)) }
 {
     let (word, rest) = next(words, asked.end)?;
     let Token::Number(hart) = word.token else {
-        let (index, rest) = location(words, asked.end)?;
-        return Ok((Observed::Location(index), rest));
+        return read_location(words, asked.end);
     };
     if hart >= u32::from(asked.harts) {
         return Err(Stop::at(word.start, Fault::NoHart));
@@ -224,6 +231,17 @@ pub(crate) fn read_observed<'a>(
     let (register, rest) = register_but_zero(rest, asked.end)?;
     let hart = hart as u8;
     Ok((Observed::Register { hart, register }, rest))
+}
+
+/// Reads `x`, `[x]` or `x[1]`.
+fn read_location(words: &[Word], end: usize) -> Result<(Observed, &[Word]), Stop>
+    ensures taken { IfOk result (λ p. ObservedTaken words.now p.0 p.1.now) }
+    ensures there { (harts : ℕ) → IfOk result (λ p. IsThere harts p.0) }
+    ensures only { (index : ℕ) → (rest : List AnyWord) → LocationTaken words.now index rest → NoIndex rest
+        → Gives result (λ p. (p.0 ≡ observed.Location index) × (p.1.now ≡ rest)) }
+{
+    let (index, rest) = location(words, end)?;
+    Ok((Observed::Location(index), rest))
 }
 
 /// That a term doesn't hold.

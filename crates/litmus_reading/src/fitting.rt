@@ -3,12 +3,13 @@
 ghost use Rattle.std.specs.Prelude.{◌≡◌, ◌∷◌, [], List, ℤ, true, false, OnOk};
 ghost use Rattle.litmus_words.specs.Answered.{Gives};
 ghost use Rattle.litmus_words.specs.Parts.{IntegerTaken};
-ghost use Rattle.litmus_words.specs.Tokens.{Takes};
+ghost use Rattle.litmus_words.specs.Tokens.{Takes, tokens};
+ghost use Rattle.litmus_words.specs.declared.word.Mark.TheVariants as mark_of;
 ghost use Rattle.litmus_words.specs.declared.word.Word.{Word as AnyWord};
 ghost use Rattle.litmus_words.specs.declared.word.Declared.{Declared as AnyDeclared};
 ghost use Rattle.litmus_words.specs.declared.word.Token.TheVariants as token;
 ghost use Rattle.watched_outcomes.specs.declared.watch.Width.TheVariants as width_of;
-ghost use Rattle.litmus_reading.specs.Fitting.{IsWithin};
+ghost use Rattle.litmus_reading.specs.Fitting.{IsWithin, width_at};
 
 use litmus_tests::Width;
 use litmus_words::{Fault, Mark, Stop, Token, Word, number, start_of};
@@ -103,23 +104,28 @@ fn check_same(found: Width, width: Width, at: usize) -> Result<(), Stop>
 
 /// The width of the number that is looked at: `x`, `[x]` and `x[1]` are as wide as their location says, a register has
 /// a word.
-pub(crate) fn width_at(words: &[Word]) -> Width {
-    match words.first() {
-        Some(word) => match word.token {
-            Token::Location(declared) => declared.number_type.width,
-            Token::Mark(Mark::LeftBracket) => width_at_name(words.get(1)),
-            _ => Width::Word,
-        },
-        None => Width::Word,
+pub(crate) fn width_at(words: &[Word]) -> Width
+    ensures { result ≡ width_at (tokens words.now) }
+{
+    let Some((word, behind)) = words.split_first() else {
+        return Width::Word;
+    };
+    match word.token {
+        Token::Location(declared) => declared.number_type.width,
+        Token::Mark(Mark::LeftBracket) => width_of_name(behind),
+        _ => Width::Word,
     }
 }
 
-fn width_at_name(word: Option<&Word>) -> Width {
-    match word {
-        Some(word) => match word.token {
-            Token::Location(declared) => declared.number_type.width,
-            _ => Width::Word,
-        },
-        None => Width::Word,
+/// The width of the location with whose name the words begin.
+fn width_of_name(words: &[Word]) -> Width
+    ensures { result ≡ width_at (token.Mark mark_of.LeftBracket ∷ tokens words.now) }
+{
+    let Some((word, _)) = words.split_first() else {
+        return Width::Word;
+    };
+    match word.token {
+        Token::Location(declared) => declared.number_type.width,
+        _ => Width::Word,
     }
 }
