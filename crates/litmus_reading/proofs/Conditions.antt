@@ -1,5 +1,6 @@
 -- Conditions, put together from what was read of them.
-use Rattle.std.proofs.Common.{ℕ, ◌≤◌, List, [], ◌∷◌, ◌++◌, refl, sym, subst, arith}
+use Rattle.std.proofs.Common.{◌≡◌, ℕ, ◌≤◌, List, [], ◌∷◌, ◌++◌, refl, sym, ap, ◌∙◌, subst, inl, inr, arith}
+use Rattle.std.specs.Prelude.{◌≢◌}
 use Rattle.litmus_tests.specs.declared.condition.Term.{Term}
 use Rattle.litmus_tests.specs.declared.condition.Condition.{Condition, Always, Holds, Not', Both', Either', Implies', Equivalent'}
 use Rattle.litmus_words.specs.declared.word.Word.{Word}
@@ -10,9 +11,15 @@ use Rattle.litmus_reading.specs.Grammar.{Syntax, leaf, differing, always, negate
 use Rattle.litmus_reading.specs.Grammar.{implication, equivalence, text_of}
 use Rattle.litmus_reading.specs.Grammar.{IsAtLevel, Means, ConditionTaken, SpellsTerm}
 use Rattle.litmus_reading.specs.Grammar.{IsNegation, IsConjunction, IsDisjunction, IsImplication, IsEquivalence}
-use Rattle.litmus_words.specs.Parts.{ObservedTaken, ValueTaken}
-use Rattle.litmus_words.specs.Tokens.{Takes}
-use Rattle.litmus_words.proofs.Taking.{one_behind_another}
+use Rattle.litmus_reading.specs.Grammar.{TermTaken}
+use Rattle.litmus_reading.specs.Fitting.{FittingTaken, width_at}
+use Rattle.litmus_tests.specs.declared.condition.Observed.{Observed}
+use Rattle.litmus_tests.specs.declared.condition.Observed.TheVariants as observed
+use Rattle.watched_outcomes.specs.declared.watch.Width.{Width}
+use Rattle.litmus_words.specs.declared.word.Declared.{Declared}
+use Rattle.litmus_words.specs.Parts.{NoIndex, ObservedTaken, SpellsIndex, SpellsObserved}
+use Rattle.litmus_words.specs.Tokens.{Takes, tokens}
+use Rattle.litmus_words.proofs.Taking.{begins_by, in_parts, one_behind_another}
 
 higher : (syntax : Syntax) (low high : ℕ) → low ≤ high → IsAtLevel low syntax → IsAtLevel high syntax
 higher (leaf text) low high le h = tt
@@ -141,23 +148,106 @@ in_parentheses words behind between rest condition first h last = record {
 pub of_truth : (words rest : List Word) → Takes words (Mark mark.True ∷ []) rest → ConditionTaken 0 words Always rest
 of_truth words rest first = record { syntax = always; stands = tt; means = tt; takes = first }
 
-pub of_term : (words between behind rest : List Word) (term : Term) → ObservedTaken words term.observed between
-    → Takes between (Mark mark.Equals ∷ []) behind → ValueTaken behind term.value rest
-    → ConditionTaken 0 words (Holds term) rest
-of_term words between behind rest term h middle k = record {
-  syntax = leaf (h.text ++ Mark mark.Equals ∷ k.text);
-  stands = tt;
-  means = record { left = h.text; right = k.text; spelled = refl; observed = h.spells; value = k.spells };
-  takes = around words between behind rest h.text k.text (Mark mark.Equals) h.takes middle k.takes;
+-- what is looked at tells how wide it is
+wide_of : (text more : List Token) (declared : Declared) (index : ℕ) → SpellsIndex declared text index
+    → width_at (text ++ more) ≡ width_at text
+wide_of text more declared index (inl alone) =
+    ap (λ (t : List Token). width_at (t ++ more)) alone.0 ∙ sym (ap width_at alone.0)
+wide_of text more declared index (inr (inl bracketed)) =
+    ap (λ (t : List Token). width_at (t ++ more)) bracketed.0 ∙ sym (ap width_at bracketed.0)
+wide_of text more declared index (inr (inr element)) =
+    ap (λ (t : List Token). width_at (t ++ more)) element.1 ∙ sym (ap width_at element.1)
+
+wide_by : (text more : List Token) (one : Observed) → SpellsObserved text one → width_at (text ++ more) ≡ width_at text
+wide_by text more (observed.Register hart register) is =
+    ap (λ (t : List Token). width_at (t ++ more)) is ∙ sym (ap width_at is)
+wide_by text more (observed.Location index) is = wide_of text more is.declared index is.spelled
+
+pub as_wide : (words rest : List Word) (one : Observed) (width : Width) (taken : ObservedTaken words one rest)
+    → width ≡ width_at (tokens words) → width ≡ width_at taken.text
+as_wide words rest one width taken is =
+    is ∙ ap width_at taken.takes.spelled ∙ wide_by taken.text (tokens rest) one taken.spells
+
+pub term_taken : (sign : Token) (words between behind rest : List Word) (term : Term)
+    → ObservedTaken words term.observed between → Takes between (sign ∷ []) behind
+    → FittingTaken term.width behind term.value rest → term.width ≡ width_at (tokens words)
+    → TermTaken sign words term rest
+term_taken sign words between behind rest term h middle k wide = record {
+  text = h.text ++ sign ∷ k.text;
+  spells = record {
+    left = h.text;
+    right = k.text;
+    spelled = refl;
+    observed = h.spells;
+    value = k.spells;
+    wide = as_wide words between term.observed term.width h wide;
+    fits = k.fits;
+  };
+  takes = around words between behind rest h.text k.text sign h.takes middle k.takes;
 }
 
-pub of_other : (words between behind rest : List Word) (term : Term) (whole : Condition)
-    → ObservedTaken words term.observed between → Takes between (Mark mark.Differs ∷ []) behind
-    → ValueTaken behind term.value rest → IsNegation (Holds term) whole → ConditionTaken 0 words whole rest
-of_other words between behind rest term whole h middle k is = record {
-  syntax = differing (h.text ++ Mark mark.Differs ∷ k.text);
+pub of_term : (words rest : List Word) (term : Term) → TermTaken (Mark mark.Equals) words term rest
+    → ConditionTaken 0 words (Holds term) rest
+of_term words rest term it = record { syntax = leaf it.text; stands = tt; means = it.spells; takes = it.takes }
+
+pub of_other : (words rest : List Word) (term : Term) (whole : Condition)
+    → TermTaken (Mark mark.Differs) words term rest → IsNegation (Holds term) whole → ConditionTaken 0 words whole rest
+of_other words rest term whole it is = record {
+  syntax = differing it.text;
   stands = tt;
-  means = means_other (h.text ++ Mark mark.Differs ∷ k.text) term whole is
-      (record { left = h.text; right = k.text; spelled = refl; observed = h.spells; value = k.spells });
-  takes = around words between behind rest h.text k.text (Mark mark.Differs) h.takes middle k.takes;
+  means = means_other it.text term whole is it.spells;
+  takes = it.takes;
 }
+
+-- the pieces of a term
+pub record TermParts (sign : Token) (words : List Word) (term : Term) (rest : List Word) : Type 0 where
+  pub between : List Word
+  pub behind : List Word
+  pub observed : ObservedTaken words term.observed between
+  pub middle : Takes between (sign ∷ []) behind
+  pub value : FittingTaken term.width behind term.value rest
+  pub wide : term.width ≡ width_at (tokens words)
+
+pub term_parts : (sign : Token) (words rest : List Word) (term : Term) → TermTaken sign words term rest
+    → TermParts sign words term rest
+term_parts sign words rest term it =
+    let parts = in_parts words rest it.spells.left (sign ∷ it.spells.right)
+    (subst (λ (t : List Token). Takes words t rest) it.spells.spelled it.takes) in
+    let inner = begins_by parts.between rest sign it.spells.right parts.behind in
+    record {
+      between = parts.between;
+      behind = inner.between;
+      observed = record { text = it.spells.left; spells = it.spells.observed; takes = parts.before };
+      middle = inner.before;
+      value = record {
+        text = it.spells.right;
+        spells = it.spells.value;
+        fits = it.spells.fits;
+        takes = inner.behind;
+      };
+      wide = it.spells.wide ∙ sym (ap width_at parts.before.spelled
+          ∙ wide_by it.spells.left (tokens parts.between) term.observed it.spells.observed);
+    }
+
+pub no_index : (words behind : List Word) (sign : Token) → Takes words (sign ∷ []) behind
+    → sign ≢ Mark mark.LeftBracket → NoIndex words
+no_index [] behind sign takes other = tt
+no_index (word ∷ words) behind sign takes other = λ is. other (sym takes.so.0 ∙ is)
+
+pub equals_other : Mark mark.Equals ≡ Mark mark.LeftBracket → ⊥
+equals_other e = cc
+
+pub differs_other : Mark mark.Differs ≡ Mark mark.LeftBracket → ⊥
+differs_other e = cc
+
+pub not_equals : Mark mark.Differs ≡ Mark mark.Equals → ⊥
+not_equals e = cc
+
+pub same_term : (one other : Term) → one.observed ≡ other.observed → one.value ≡ other.value
+    → one.width ≡ other.width → one ≡ other
+same_term one other looked held wide =
+    (λ k. record { observed = looked k; value = held k; width = wide k })
+
+pub negates_same : (one other : Term) (whole : Condition) → one ≡ other → IsNegation (Holds one) whole
+    → IsNegation (Holds other) whole
+negates_same one other whole same is = subst (λ (t : Term). IsNegation (Holds t) whole) same is

@@ -19,7 +19,7 @@ use Rattle.litmus_words.proofs.Taking.{begins_by, first_taken, same_first}
 use Rattle.watched_outcomes.specs.declared.watch.Width.{Width}
 use Rattle.watched_outcomes.specs.declared.watch.Width.TheVariants.{Byte, Half, Word}
 use Rattle.litmus_reading.specs.declared.contents.Given.{Given}
-use Rattle.litmus_reading.specs.Fitting.{FitsGiven, FitsIn, GivenValueTaken, IsWithin, PointsTo}
+use Rattle.litmus_reading.specs.Fitting.{FitsGiven, FitsIn, FittingTaken, GivenValueTaken, IsWithin, PointsTo}
 
 -- what a check of the width finds
 abbrev pub AllWithin : List AnyWord → Width → Type 0
@@ -172,3 +172,29 @@ place_only words rest behind (observed.Register hart register) word result is of
     (token.Mark mark.Colon ∷ token.Register register ∷ [])
     (subst (λ (t : List Token). Takes words t rest) taken.spells taken.takes) in
     absurd (off hart (first_taken words behind parts.between word (token.Number hart) is parts.before).0)
+
+-- the same where a width is asked for
+pub fitting_taken : (width : Width) (words rest : List AnyWord) (value : Value) → AllWithin words width
+    → NoAddress words width → ValueTaken words value rest → FittingTaken width words value rest
+fitting_taken width words rest value within none taken = record {
+  text = taken.text;
+  spells = taken.spells;
+  fits = fits_in width words rest value within none taken;
+  takes = taken.takes;
+}
+
+pub width_fitting : (width : Width) (words : List AnyWord) (result : Result Unit Stop)
+    → ((number : ℤ) → (rest : List AnyWord) → IntegerTaken words number rest → IsWithin width number
+    → Gives result (λ _. Unit {0}))
+    → ((declared : Declared) → (rest : List AnyWord) → Takes words (Location declared ∷ []) rest → width ≡ Word
+    → Gives result (λ _. Unit {0}))
+    → (value : Value) → (rest : List AnyWord) → FittingTaken width words value rest → Gives result (λ _. Unit {0})
+width_fitting width words result only address value rest taken =
+    width_by width words rest result value only address
+    (record { text = taken.text; spells = taken.spells; takes = taken.takes }) taken.fits
+
+pub moved_value : (width other : Width) (words behind rest : List AnyWord) (value : Value) → width ≡ other
+    → words ≡ behind → FittingTaken other behind value rest → FittingTaken width words value rest
+moved_value width other words behind rest value same there taken =
+    subst (λ (w : Width). FittingTaken w words value rest) (sym same)
+    (subst (λ (t : List AnyWord). FittingTaken other t value rest) (sym there) taken)

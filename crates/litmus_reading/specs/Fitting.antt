@@ -46,3 +46,10 @@ abbrev pub width_at : List Token → Width
 width_at (Location declared ∷ others) = declared.number_type.width
 width_at (Mark mark.LeftBracket ∷ Location declared ∷ others) = declared.number_type.width
 width_at text = Word
+
+-- A value that fits in a width stands before the rest.
+pub record FittingTaken (width : Width) (words : List AnyWord) (value : Value) (rest : List AnyWord) : Type 0 where
+  pub text : List Token
+  pub spells : SpellsValue text value
+  pub fits : FitsIn width text value
+  pub takes : Takes words text rest

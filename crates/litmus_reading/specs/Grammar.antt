@@ -9,6 +9,14 @@ use Rattle.litmus_words.specs.declared.word.Token.TheVariants.{Mark}
 use Rattle.litmus_words.specs.declared.word.Mark.TheVariants as mark
 use Rattle.litmus_words.specs.Parts.{SpellsObserved, SpellsValue}
 use Rattle.litmus_words.specs.Tokens.{Takes}
+use Rattle.litmus_reading.specs.Fitting.{FitsIn, width_at}
+
+-- How many terms and `true` a condition may have, and how many levels may be nested in it. [this project's limits]
+abbrev pub most_terms : ℕ
+most_terms = 32
+
+abbrev pub most_nested : ℕ
+most_nested = 16
 
 -- What is looked at, `=` or `!=`, and the value.
 pub record SpellsTerm (sign : Token) (text : List Token) (term : Term) : Type 0 where
@@ -17,6 +25,14 @@ pub record SpellsTerm (sign : Token) (text : List Token) (term : Term) : Type 0 
   pub spelled : text ≡ left ++ sign ∷ right
   pub observed : SpellsObserved left term.observed
   pub value : SpellsValue right term.value
+  pub wide : term.width ≡ width_at left
+  pub fits : FitsIn term.width right term.value
+
+-- It stands before the rest.
+pub record TermTaken (sign : Token) (words : List Word) (term : Term) (rest : List Word) : Type 0 where
+  pub text : List Token
+  pub spells : SpellsTerm sign text term
+  pub takes : Takes words text rest
 
 -- A condition with its parentheses. A leaf has the tokens of a term, and so has a differing one, with `!=` in it.
 pub data Syntax : Type 0 where

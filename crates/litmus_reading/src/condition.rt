@@ -1,13 +1,18 @@
 //! Conditions, by recursive descent: `<=>` of `=>` of `\/` of `/\` of what stands alone. The recursion is as deep as
 //! `not` and parentheses are nested, and as there are terms before a `=>`; both are bounded.
 
-ghost use Rattle.std.specs.Prelude.{◌≡◌, ◌<◌, List, ℕ, IfOk};
-ghost use Rattle.litmus_words.specs.Answered.{Gives};
+ghost use Rattle.std.specs.Prelude.{◌≡◌, ◌<◌, ◌+◌, List, ℕ, IfOk, OnOk};
+ghost use Rattle.litmus_words.specs.Answered.{Gives, GivesOrMemory};
+ghost use Rattle.litmus_words.specs.declared.word.Token.TheVariants as token;
+ghost use Rattle.litmus_words.specs.declared.word.Mark.TheVariants as mark_of;
+ghost use Rattle.litmus_tests.specs.declared.condition.Term.{Term as AnyTerm};
 ghost use Rattle.litmus_words.specs.declared.word.Word.{Word as AnyWord};
 ghost use Rattle.litmus_tests.specs.declared.condition.Observed.{Observed as AnyObserved};
 ghost use Rattle.litmus_tests.specs.declared.condition.Observed.TheVariants as observed;
 ghost use Rattle.litmus_reading.specs.Questions.{IsThere};
 ghost use Rattle.litmus_reading.specs.Grammar.{
+  TermTaken,
+  most_terms,
   ConditionTaken,
   IsNegation,
   IsConjunction,
@@ -15,12 +20,14 @@ ghost use Rattle.litmus_reading.specs.Grammar.{
   IsImplication,
   IsEquivalence,
 };
-ghost use Rattle.litmus_words.specs.Parts.{LocationTaken, NoIndex, ObservedTaken};
+ghost use Rattle.litmus_words.specs.Parts.{LocationTaken, NoIndex, NoOffset, ObservedTaken};
+ghost use Rattle.litmus_reading.specs.Fitting.{FittingTaken};
+ghost use Rattle.litmus_tests.specs.declared.value.Value.{Value as AnyValue};
 ghost use Rattle.litmus_tests.specs.declared.condition.Condition.{Holds};
 
 use crate::fitting::{check_width, width_at};
 use litmus_tests::test::MOST_TERMS;
-use litmus_tests::{Condition, Observed, Term};
+use litmus_tests::{Condition, Observed, Term, Value, Width};
 use litmus_words::{
     Fault, Mark, Stop, Token, Word, behind_mark, location, mark, next, register_but_zero, start_of,
     value,
@@ -173,13 +180,20 @@ fn read_term<'a>(
     words: &'a [Word],
     leaves: &mut Leaves,
 ) -> Result<(Condition, &'a [Word]), Stop>
-    ensures { IfOk result (λ p. ConditionTaken 0 words.now p.0 p.1.now) }
+    ensures taken { IfOk result (λ p. ConditionTaken 0 words.now p.0 p.1.now) }
+    ensures only_equal { (term : AnyTerm) → (rest : List AnyWord)
+        → TermTaken (token.Mark mark_of.Equals) words.now term rest → IsThere asked.now.harts term.observed
+        → NoIndex rest → NoOffset rest → leaves.old.count < most_terms → GivesOrMemory result (λ p.
+        (p.0 ≡ Holds term) × (p.1.now ≡ rest) × (leaves.new.count ≡ leaves.old.count + 1)) }
+    ensures only_other { (term : AnyTerm) → (rest : List AnyWord)
+        → TermTaken (token.Mark mark_of.Differs) words.now term rest → IsThere asked.now.harts term.observed
+        → NoIndex rest → NoOffset rest → leaves.old.count < most_terms → GivesOrMemory result (λ p.
+        IsNegation (Holds term) p.0 × (p.1.now ≡ rest) × (leaves.new.count ≡ leaves.old.count + 1)) }
 {
     let (observed, rest) = read_observed(asked, words)?;
     let width = width_at(words);
     if let Some(behind) = behind_mark(rest, Mark::Differs) {
-        check_width(behind, width, asked.end)?;
-        let (other, rest) = value(behind, asked.end)?;
+        let (other, rest) = read_number(behind, width, asked.end)?;
         count_leaf(asked, words, leaves)?;
         let term = Term {
             observed,
@@ -189,9 +203,8 @@ fn read_term<'a>(
         let whole = differing(term, asked.alloc)?;
         return Ok((whole, rest));
     }
-    let rest = mark(rest, Mark::Equals, asked.end)?;
-    check_width(rest, width, asked.end)?;
-    let (value, rest) = value(rest, asked.end)?;
+    let behind = mark(rest, Mark::Equals, asked.end)?;
+    let (value, rest) = read_number(behind, width, asked.end)?;
     count_leaf(asked, words, leaves)?;
     let term = Term {
         observed,
@@ -201,8 +214,21 @@ fn read_term<'a>(
     Ok((Condition::Holds(term), rest))
 }
 
+/// Reads a value that fits in a width.
+fn read_number(words: &[Word], width: Width, end: usize) -> Result<(Value, &[Word]), Stop>
+    ensures taken { IfOk result (λ p. FittingTaken width words.now p.0 p.1.now) }
+    ensures only { (value : AnyValue) → (rest : List AnyWord) → FittingTaken width words.now value rest → NoIndex rest
+        → NoOffset rest → Gives result (λ p. (p.0 ≡ value) × (p.1.now ≡ rest)) }
+{
+    check_width(words, width, end)?;
+    value(words, end)
+}
+
 /// Counts one more, `true` too: what follows a condition by recursion goes as deep as there are.
-fn count_leaf(asked: &Asked, words: &[Word], leaves: &mut Leaves) -> Result<(), Stop> {
+fn count_leaf(asked: &Asked, words: &[Word], leaves: &mut Leaves) -> Result<(), Stop>
+    ensures counted { OnOk result (leaves.new.count ≡ leaves.old.count + 1) }
+    ensures only { leaves.old.count < most_terms → Gives result (λ _. Unit {0}) }
+{
     if leaves.count >= MOST_TERMS {
         return Err(Stop::at(start_of(words, asked.end), Fault::TooManyTerms));
     }
