@@ -2,6 +2,7 @@ pub mod Branches
 pub mod Cells
 pub mod Chains
 pub mod Columns
+pub mod ConditionRead
 pub mod Conditions
 pub mod Declaring
 pub mod Entries

@@ -1,6 +1,8 @@
 -- Which values fit where a width is given or asked for.
-use Rattle.std.specs.Prelude.{◌≡◌, ◌⊎◌, true, false, ℤ, pos, neg_ℤ, ◌≤ℤ◌, List, [], ◌∷◌}
+use Rattle.std.specs.Prelude.{◌≡◌, ◌⊎◌, ◌<◌, ℕ, true, false, ℤ, pos, neg_ℤ, ◌≤ℤ◌, List, [], ◌∷◌}
 use Rattle.litmus_tests.specs.declared.value.Value.{Value}
+use Rattle.litmus_tests.specs.declared.condition.Observed.{Observed}
+use Rattle.litmus_tests.specs.declared.condition.Observed.TheVariants as observed
 use Rattle.litmus_tests.specs.declared.value.Value.TheVariants.{Number, Address}
 use Rattle.litmus_words.specs.declared.word.Token.{Token}
 use Rattle.litmus_words.specs.declared.word.Token.TheVariants.{Location, Mark}
@@ -53,3 +55,8 @@ pub record FittingTaken (width : Width) (words : List AnyWord) (value : Value) (
   pub spells : SpellsValue text value
   pub fits : FitsIn width text value
   pub takes : Takes words text rest
+
+-- What is looked at is there, of so many harts: x0 can hold no other number than 0.
+abbrev pub IsThere : ℕ → Observed → Type 0
+IsThere harts (observed.Register hart register) = (hart < harts) × (0 < register)
+IsThere harts (observed.Location index) = Unit {0}

@@ -1,6 +1,6 @@
 -- What stands behind the rows: `locations [..]` and `filter C`, in either order and each once at the most, and the
 -- question. Where the locations are listed, it may be left out, and is `forall (true)` then.
-use Rattle.std.specs.Prelude.{◌≡◌, ◌⊎◌, ℕ, zero, suc, ◌+◌, ◌<◌, Bool, true, false, List, [], ◌∷◌, ◌++◌}
+use Rattle.std.specs.Prelude.{◌≡◌, ◌⊎◌, ℕ, zero, suc, ◌+◌, Bool, true, false, List, [], ◌∷◌, ◌++◌}
 use Rattle.litmus_tests.specs.declared.condition.Condition.{Condition, Always}
 use Rattle.litmus_tests.specs.declared.condition.Observed.{Observed}
 use Rattle.litmus_tests.specs.declared.condition.Observed.TheVariants as observed
@@ -14,11 +14,6 @@ use Rattle.litmus_words.specs.Parts.{SpellsObserved}
 use Rattle.litmus_words.specs.Tokens.{Takes}
 use Rattle.litmus_reading.specs.Grammar.{ConditionTaken}
 use Rattle.litmus_reading.specs.Names.{elements_of}
-
--- What is looked at is there, of so many harts: x0 can hold no other number than 0.
-abbrev pub IsThere : ℕ → Observed → Type 0
-IsThere harts (observed.Register hart register) = (hart < harts) × (0 < register)
-IsThere harts (observed.Location index) = Unit {0}
 
 abbrev pub quantifier_tokens : Quantifier → List Token
 quantifier_tokens Exists = Mark mark.Exists ∷ []

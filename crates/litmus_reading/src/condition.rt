@@ -9,8 +9,11 @@ ghost use Rattle.litmus_tests.specs.declared.condition.Term.{Term as AnyTerm};
 ghost use Rattle.litmus_words.specs.declared.word.Word.{Word as AnyWord};
 ghost use Rattle.litmus_tests.specs.declared.condition.Observed.{Observed as AnyObserved};
 ghost use Rattle.litmus_tests.specs.declared.condition.Observed.TheVariants as observed;
-ghost use Rattle.litmus_reading.specs.Questions.{IsThere};
+ghost use Rattle.litmus_tests.specs.declared.condition.Condition.{Condition as AnyCondition};
+ghost use Rattle.litmus_reading.specs.Grammar.{Syntax as AnySyntax};
 ghost use Rattle.litmus_reading.specs.Grammar.{
+  CanBeRead,
+  IsReadAs,
   TermTaken,
   most_terms,
   ConditionTaken,
@@ -21,7 +24,7 @@ ghost use Rattle.litmus_reading.specs.Grammar.{
   IsEquivalence,
 };
 ghost use Rattle.litmus_words.specs.Parts.{LocationTaken, NoIndex, NoOffset, ObservedTaken};
-ghost use Rattle.litmus_reading.specs.Fitting.{FittingTaken};
+ghost use Rattle.litmus_reading.specs.Fitting.{FittingTaken, IsThere};
 ghost use Rattle.litmus_tests.specs.declared.value.Value.{Value as AnyValue};
 ghost use Rattle.litmus_tests.specs.declared.condition.Condition.{Holds};
 
@@ -57,7 +60,10 @@ pub(crate) fn read_condition<'a>(
     room: u8,
     leaves: &mut Leaves,
 ) -> Result<(Condition, &'a [Word]), Stop>
-    ensures { IfOk result (λ p. ConditionTaken 4 words.now p.0 p.1.now) }
+    ensures taken { IfOk result (λ p. ConditionTaken 4 words.now p.0 p.1.now) }
+    ensures only { (syntax : AnySyntax) → (condition : AnyCondition) → (rest : List AnyWord)
+        → CanBeRead asked.now.harts 4 room leaves.old.count words.now syntax condition rest → GivesOrMemory result
+        (λ p. IsReadAs leaves.old.count syntax condition rest p.0 p.1.now leaves.new.count) }
 {
     let (mut condition, mut rest) = read_implied(asked, words, room, leaves)?;
     while let Some(behind) = behind_mark(rest, Mark::Equivalent) {
@@ -76,7 +82,10 @@ fn read_implied<'a>(
     room: u8,
     leaves: &mut Leaves,
 ) -> Result<(Condition, &'a [Word]), Stop>
-    ensures { IfOk result (λ p. ConditionTaken 3 words.now p.0 p.1.now) }
+    ensures taken { IfOk result (λ p. ConditionTaken 3 words.now p.0 p.1.now) }
+    ensures only { (syntax : AnySyntax) → (condition : AnyCondition) → (rest : List AnyWord)
+        → CanBeRead asked.now.harts 3 room leaves.old.count words.now syntax condition rest → GivesOrMemory result
+        (λ p. IsReadAs leaves.old.count syntax condition rest p.0 p.1.now leaves.new.count) }
 {
     let (left, rest) = read_either(asked, words, room, leaves)?;
     let Some(behind) = behind_mark(rest, Mark::Implies) else {
@@ -95,7 +104,10 @@ fn read_either<'a>(
     room: u8,
     leaves: &mut Leaves,
 ) -> Result<(Condition, &'a [Word]), Stop>
-    ensures { IfOk result (λ p. ConditionTaken 2 words.now p.0 p.1.now) }
+    ensures taken { IfOk result (λ p. ConditionTaken 2 words.now p.0 p.1.now) }
+    ensures only { (syntax : AnySyntax) → (condition : AnyCondition) → (rest : List AnyWord)
+        → CanBeRead asked.now.harts 2 room leaves.old.count words.now syntax condition rest → GivesOrMemory result
+        (λ p. IsReadAs leaves.old.count syntax condition rest p.0 p.1.now leaves.new.count) }
 {
     let (mut condition, mut rest) = read_both(asked, words, room, leaves)?;
     while let Some(behind) = behind_mark(rest, Mark::Or) {
@@ -114,7 +126,10 @@ fn read_both<'a>(
     room: u8,
     leaves: &mut Leaves,
 ) -> Result<(Condition, &'a [Word]), Stop>
-    ensures { IfOk result (λ p. ConditionTaken 1 words.now p.0 p.1.now) }
+    ensures taken { IfOk result (λ p. ConditionTaken 1 words.now p.0 p.1.now) }
+    ensures only { (syntax : AnySyntax) → (condition : AnyCondition) → (rest : List AnyWord)
+        → CanBeRead asked.now.harts 1 room leaves.old.count words.now syntax condition rest → GivesOrMemory result
+        (λ p. IsReadAs leaves.old.count syntax condition rest p.0 p.1.now leaves.new.count) }
 {
     let (mut condition, mut rest) = read_alone(asked, words, room, leaves)?;
     while let Some(behind) = behind_mark(rest, Mark::And) {
@@ -133,7 +148,10 @@ fn read_alone<'a>(
     room: u8,
     leaves: &mut Leaves,
 ) -> Result<(Condition, &'a [Word]), Stop>
-    ensures { IfOk result (λ p. ConditionTaken 0 words.now p.0 p.1.now) }
+    ensures taken { IfOk result (λ p. ConditionTaken 0 words.now p.0 p.1.now) }
+    ensures only { (syntax : AnySyntax) → (condition : AnyCondition) → (rest : List AnyWord)
+        → CanBeRead asked.now.harts 0 room leaves.old.count words.now syntax condition rest → GivesOrMemory result
+        (λ p. IsReadAs leaves.old.count syntax condition rest p.0 p.1.now leaves.new.count) }
 {
     if let Some(behind) = behind_mark(words, Mark::Not) {
         let room = deeper(asked, words, room)?;
@@ -165,7 +183,10 @@ fn read_leaf<'a>(
     words: &'a [Word],
     leaves: &mut Leaves,
 ) -> Result<(Condition, &'a [Word]), Stop>
-    ensures { IfOk result (λ p. ConditionTaken 0 words.now p.0 p.1.now) }
+    ensures taken { IfOk result (λ p. ConditionTaken 0 words.now p.0 p.1.now) }
+    ensures only { (syntax : AnySyntax) → (condition : AnyCondition) → (rest : List AnyWord)
+        → CanBeRead asked.now.harts 0 0 leaves.old.count words.now syntax condition rest → GivesOrMemory result
+        (λ p. IsReadAs leaves.old.count syntax condition rest p.0 p.1.now leaves.new.count) }
 {
     if let Some(behind) = behind_mark(words, Mark::True) {
         count_leaf(asked, words, leaves)?;
