@@ -1,5 +1,6 @@
 pub mod Branches
 pub mod Cells
+pub mod Chained
 pub mod Chains
 pub mod Columns
 pub mod ConditionRead
@@ -8,6 +9,7 @@ pub mod Declaring
 pub mod Entries
 pub mod Fitted
 pub mod Giving
+pub mod Items
 pub mod Listing
 pub mod Looking
 pub mod Made

@@ -1,6 +1,13 @@
 //! What stands behind the rows: what is looked at, a filter, and the condition.
 
-ghost use Rattle.std.specs.Prelude.{◌≡◌, ◌++◌, ◌∷◌, [], IfOk, IfSome, OnOk};
+ghost use Rattle.std.specs.Prelude.{◌≡◌, ◌++◌, ◌∷◌, [], List, IfOk, IfSome, OnOk};
+ghost use Rattle.litmus_words.specs.Answered.{Gives, GivesOrMemory, GivesSome};
+ghost use Rattle.litmus_words.specs.Parts.{NoIndex, ObservedTaken};
+ghost use Rattle.litmus_reading.specs.Fitting.{IsThere};
+ghost use Rattle.litmus_tests.specs.declared.condition.Observed.{Observed as AnyObserved};
+ghost use Rattle.litmus_words.specs.declared.word.Word.{Word as AnyWord};
+ghost use Rattle.litmus_words.specs.declared.word.Declared.{Declared as AnyDeclared};
+ghost use Rattle.litmus_tests.specs.declared.condition.Quantifier.{Quantifier as AnyQuantifier};
 ghost use Rattle.litmus_words.specs.Tokens.{Takes};
 ghost use Rattle.litmus_reading.specs.Grammar.{ConditionTaken};
 ghost use Rattle.litmus_reading.specs.Names.{elements_of};
@@ -197,8 +204,17 @@ fn read_items<'a>(asked: &Asked, words: &'a [Word], listed: &mut Listed) -> Resu
 
 /// Reads what is listed: an array as a whole, or what a term looks at too.
 fn read_item<'a>(asked: &Asked, words: &'a [Word], listed: &mut Listed) -> Result<&'a [Word], Stop>
-    ensures { IfOk result (λ rest. ItemTaken words.now listed.old.observed.items listed.old.whole.items
+    ensures taken { IfOk result (λ rest. ItemTaken words.now listed.old.observed.items listed.old.whole.items
         listed.new.observed.items listed.new.whole.items rest.now) }
+    ensures only_one { (one : AnyObserved) → (rest : List AnyWord) → ObservedTaken words.now one rest
+        → IsThere asked.now.harts one → NoIndex rest → GivesOrMemory result (λ behind. (behind.now ≡ rest)
+        × (listed.new.observed.items ≡ listed.old.observed.items ++ one ∷ [])
+        × (listed.new.whole.items ≡ listed.old.whole.items)) }
+    ensures only_whole { (declared : AnyDeclared) → (rest : List AnyWord) → WholeTaken words.now declared rest
+        → NoIndex rest → GivesOrMemory result (λ behind. (behind.now ≡ rest)
+        × (listed.new.observed.items ≡ listed.old.observed.items
+        ++ elements_from (elements_of declared) declared.first)
+        × (listed.new.whole.items ≡ listed.old.whole.items ++ declared.first ∷ [])) }
 {
     if let Some((declared, behind)) = whole_array(words) {
         list_elements(declared, &mut listed.observed)?;
@@ -212,7 +228,10 @@ fn read_item<'a>(asked: &Asked, words: &'a [Word], listed: &mut Listed) -> Resul
 
 /// The array with whose name the words begin, without an index, and the words behind.
 fn whole_array(words: &[Word]) -> Option<(Declared, &[Word])>
-    ensures { IfSome result (λ p. WholeTaken words.now p.0 p.1.now) }
+    ensures taken { IfSome result (λ p. WholeTaken words.now p.0 p.1.now) }
+    ensures over { IfSome result (λ p. NoIndex p.1.now) }
+    ensures only { (declared : AnyDeclared) → (rest : List AnyWord) → WholeTaken words.now declared rest → NoIndex rest
+        → GivesSome result (λ p. (p.0 ≡ declared) × (p.1.now ≡ rest)) }
 {
     let Some((word, behind)) = words.split_first() else {
         return None;
@@ -231,7 +250,8 @@ fn whole_array(words: &[Word]) -> Option<(Declared, &[Word])>
 
 /// Lists one more.
 fn list_one(one: Observed, listed: &mut Vec<Observed>) -> Result<(), Stop>
-    ensures { OnOk result (listed.new.items ≡ listed.old.items ++ one ∷ []) }
+    ensures listed { OnOk result (listed.new.items ≡ listed.old.items ++ one ∷ []) }
+    ensures only { GivesOrMemory result (λ _. Unit {0}) }
 {
     listed.push(one)?;
     Ok(())
@@ -239,7 +259,8 @@ fn list_one(one: Observed, listed: &mut Vec<Observed>) -> Result<(), Stop>
 
 /// Keeps an array that is listed as a whole.
 fn list_whole(first: u16, whole: &mut Vec<u16>) -> Result<(), Stop>
-    ensures { OnOk result (whole.new.items ≡ whole.old.items ++ first ∷ []) }
+    ensures kept { OnOk result (whole.new.items ≡ whole.old.items ++ first ∷ []) }
+    ensures only { GivesOrMemory result (λ _. Unit {0}) }
 {
     whole.push(first)?;
     Ok(())
@@ -247,8 +268,9 @@ fn list_whole(first: u16, whole: &mut Vec<u16>) -> Result<(), Stop>
 
 /// Lists each element of an array.
 fn list_elements(declared: Declared, listed: &mut Vec<Observed>) -> Result<(), Stop>
-    ensures { OnOk result (listed.new.items
+    ensures listed { OnOk result (listed.new.items
         ≡ listed.old.items ++ elements_from (elements_of declared) declared.first) }
+    ensures only { GivesOrMemory result (λ _. Unit {0}) }
 {
     let count = elements_of(declared);
     for element in 0..count {
@@ -259,7 +281,9 @@ fn list_elements(declared: Declared, listed: &mut Vec<Observed>) -> Result<(), S
 
 /// Reads `exists`, `~exists` or `forall`.
 fn read_quantifier(words: &[Word], end: usize) -> Result<(Quantifier, &[Word]), Stop>
-    ensures { IfOk result (λ p. Takes words.now (quantifier_tokens p.0) p.1.now) }
+    ensures taken { IfOk result (λ p. Takes words.now (quantifier_tokens p.0) p.1.now) }
+    ensures only { (quantifier : AnyQuantifier) → (rest : List AnyWord)
+        → Takes words.now (quantifier_tokens quantifier) rest → Gives result (λ p. (p.0 ≡ quantifier) × (p.1.now ≡ rest)) }
 {
     let (word, rest) = match words.split_first() {
         Some((word, rest)) => (*word, rest),
