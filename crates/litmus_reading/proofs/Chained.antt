@@ -62,9 +62,16 @@ module _ (it : Connective) (is : IsConnective it) where
       → CanBeJoined harts room first (others ++ last ∷ []) whole
   joined_more harts room first [] part next last whole same means joins stands nests there =
       (next, whole, means, subst (λ (c : Condition). it.Joins c next whole) (sym same) joins, stands, nests, there, refl)
-  joined_more harts room first (other ∷ others) part next last whole can means joins stands nests there =
-      (can.0, can.1, can.2, can.3, can.4, can.5, can.6,
-      joined_more harts room can.1 others part next last whole can.7 means joins stands nests there)
+  joined_more harts room first (other ∷ others) part next last whole can means joins stands nests there = (
+    can.0,
+    can.1,
+    can.2,
+    can.3,
+    can.4,
+    can.5,
+    can.6,
+    joined_more harts room can.1 others part next last whole can.7 means joins stands nests there,
+  )
 
   pub text_more : (others : List Syntax) (last : Syntax)
       → tail_text (others ++ last ∷ []) ≡ tail_text others ++ mark_token it.sign ∷ text_of last
@@ -272,16 +279,19 @@ module _ (it : Connective) (is : IsConnective it) where
   first_can harts room count syntax whole words end can first =
       let parts = in_parts words end (text_of first.part) (tail_text first.others)
       (subst (λ (t : List Token). Takes words t end) first.text can.takes) in
-      let few = can.few in let leaves = first.leaves in
-      (parts.between, record {
-        stands = first.stands;
-        means = first.means;
-        takes = parts.before;
-        few = omega (arith, few, leaves);
-        shallow = first.nests;
-        there = first.there;
-        over = over_tail parts.between end first.others parts.behind can.over;
-      }, parts.behind)
+      let few = can.few in let leaves = first.leaves in (
+        parts.between,
+        record {
+          stands = first.stands;
+          means = first.means;
+          takes = parts.before;
+          few = omega (arith, few, leaves);
+          shallow = first.nests;
+          there = first.there;
+          over = over_tail parts.between end first.others parts.behind can.over;
+        },
+        parts.behind,
+      )
 
   pub first_left : (harts room count : ℕ) (syntax : Syntax) (whole : Condition) (words end behind : List Word)
       (found : Condition) (now : ℕ) (can : CanBeRead harts it.level room count words syntax whole end)

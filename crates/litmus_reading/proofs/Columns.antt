@@ -295,8 +295,7 @@ pub split_once : (text : List ℕ) (before a b : List Label) → AreOnce text be
     → AreOnce text before a × AreOnce text (before ++ a) b
 split_once text before [] b h = (tt, subst (λ (t : List Label). AreOnce text t b) (sym (append-nil before)) h)
 split_once text before (l ∷ a) b h =
-    let rest = split_once text (before ++ l ∷ []) a b h.1 in
-    (
+    let rest = split_once text (before ++ l ∷ []) a b h.1 in (
       (h.0, rest.0),
       subst (λ (t : List Label). AreOnce text t b) (append_assoc before (l ∷ []) a) rest.1,
     )

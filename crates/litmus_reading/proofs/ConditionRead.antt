@@ -61,12 +61,22 @@ index_first : (declared : Declared) (index : ℕ) (text : List Token) → Spells
     × (first ≢ Mark mark.True) × (first ≢ Mark mark.Not) × (first ≢ Mark mark.LeftParenthesis)
 index_first declared index text (inl alone) =
     (Location declared, [], alone.0, (λ e. cc), (λ e. cc), (λ e. cc))
-index_first declared index text (inr (inl bracketed)) =
-    (Mark mark.LeftBracket, Location declared ∷ Mark mark.RightBracket ∷ [], bracketed.0, (λ e. cc), (λ e. cc),
-    (λ e. cc))
-index_first declared index text (inr (inr element)) =
-    (Location declared, Mark mark.LeftBracket ∷ Number element.0 ∷ Mark mark.RightBracket ∷ [], element.1,
-    (λ e. cc), (λ e. cc), (λ e. cc))
+index_first declared index text (inr (inl bracketed)) = (
+  Mark mark.LeftBracket,
+  Location declared ∷ Mark mark.RightBracket ∷ [],
+  bracketed.0,
+  (λ e. cc),
+  (λ e. cc),
+  (λ e. cc),
+)
+index_first declared index text (inr (inr element)) = (
+  Location declared,
+  Mark mark.LeftBracket ∷ Number element.0 ∷ Mark mark.RightBracket ∷ [],
+  element.1,
+  (λ e. cc),
+  (λ e. cc),
+  (λ e. cc),
+)
 
 observed_first : (one : Observed) (text : List Token) → SpellsObserved text one
     → (first : Token) × (more : List Token) × (text ≡ first ∷ more)

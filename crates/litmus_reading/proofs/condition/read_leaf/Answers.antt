@@ -1,4 +1,3 @@
-use Rattle.litmus_reading.proofs.Chained.{all_read, first_can, first_left, first_of_left, less_left, next_of, only_first}
 use Rattle.litmus_reading.proofs.Conditions.{of_truth}
 use Rattle.litmus_reading.proofs.ConditionRead.{few_leaves, term_read, truth_read}
 use Rattle.litmus_reading.proofs.condition.read_leaf.Goals as goal

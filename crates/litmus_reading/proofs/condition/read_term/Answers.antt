@@ -69,9 +69,12 @@ returns-in-Some-clause-only_other c = λ term rest it there no_bracket no_plus f
     (Mark mark.Differs) looked.1 parts.middle) in
     let held = moved_value c.width_at-width.result term.width c.in-Some.behind.now parts.behind rest term.value
     (c.width_at-width.ensures ∙ sym parts.wide) there_behind parts.value in
-    let number = c.in_ok-other.ensures.only term.value rest held no_bracket no_plus in
-    (negates_same _ term c.in_ok-whole.whole (same_term _ term looked.0 number.0 (c.width_at-width.ensures ∙ sym parts.wide))
-    c.in_ok-whole.ensures, number.1, c.in_ok-count_leaf.ensures.counted)
+    let number = c.in_ok-other.ensures.only term.value rest held no_bracket no_plus in (
+      negates_same _ term c.in_ok-whole.whole (same_term _ term looked.0 number.0 (c.width_at-width.ensures ∙ sym parts.wide))
+          c.in_ok-whole.ensures,
+      number.1,
+      c.in_ok-count_leaf.ensures.counted,
+    )
 
 pub returns-clause-only_equal : goal.returns-clause-only_equal
 returns-clause-only_equal c = λ term rest it there no_bracket no_plus few.
@@ -82,6 +85,8 @@ returns-clause-only_equal c = λ term rest it there no_bracket no_plus few.
     (Mark mark.Equals) looked.1 parts.middle) in
     let held = moved_value c.width_at-width.result term.width c.in_ok-behind.behind.now parts.behind rest term.value
     (c.width_at-width.ensures ∙ sym parts.wide) there_behind parts.value in
-    let number = c.in_ok-value.ensures.only term.value rest held no_bracket no_plus in
-    ((λ k. Holds (same_term _ term looked.0 number.0 (c.width_at-width.ensures ∙ sym parts.wide) k)), number.1,
-    c.in_ok-count_leaf-2.ensures.counted)
+    let number = c.in_ok-value.ensures.only term.value rest held no_bracket no_plus in (
+      (λ k. Holds (same_term _ term looked.0 number.0 (c.width_at-width.ensures ∙ sym parts.wide) k)),
+      number.1,
+      c.in_ok-count_leaf-2.ensures.counted,
+    )

@@ -15,9 +15,8 @@ pub returns-clause-label : goal.returns-clause-label
 returns-clause-label c = last_of_more _ _ _ _ c.in_ok-first.ensures.taken c.in_ok-label.ensures.label
 
 pub returns-clause-only : goal.returns-clause-only
-returns-clause-only c = λ first label is last.
-    (
-      (c.in_ok-first.ensures.only first _ (one_of c.args.words.now (Register first) _ is).takes).0,
-      c.in_ok-label.ensures.only label (behind_one _ _ _ _ _ c.in_ok-first.ensures.taken is)
-          (last_of_less _ _ _ label _ _ c.in_ok-first.ensures.taken (behind_one _ _ _ _ _ c.in_ok-first.ensures.taken is) last),
-    )
+returns-clause-only c = λ first label is last. (
+  (c.in_ok-first.ensures.only first _ (one_of c.args.words.now (Register first) _ is).takes).0,
+  c.in_ok-label.ensures.only label (behind_one _ _ _ _ _ c.in_ok-first.ensures.taken is)
+      (last_of_less _ _ _ label _ _ c.in_ok-first.ensures.taken (behind_one _ _ _ _ _ c.in_ok-first.ensures.taken is) last),
+)

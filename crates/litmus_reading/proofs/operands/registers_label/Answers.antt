@@ -26,14 +26,13 @@ returns-clause-label c =
     (last_of_more _ _ _ _ c.in_ok-second.ensures.spelled c.in_ok-label.ensures.label)
 
 pub returns-clause-only : goal.returns-clause-only
-returns-clause-only c = λ first second label is last.
-    (
-      (c.in_ok-first.ensures.only first _ (one_of c.args.words.now (Register first) _ is).takes).0,
-      (c.in_ok-second.ensures.only second _
-          (two_of c.in_ok-first.rest.now (Mark mark.Comma) (Register second) _ (behind_one _ _ _ _ _ c.in_ok-first.ensures.taken is)).takes).0,
-      c.in_ok-label.ensures.only label (behind_two _ _ _ _ _ _ _ c.in_ok-second.ensures.spelled
-    (behind_one _ _ _ _ _ c.in_ok-first.ensures.taken is))
-          (last_of_less _ _ _ label _ _ c.in_ok-second.ensures.spelled (behind_two _ _ _ _ _ _ _ c.in_ok-second.ensures.spelled
-    (behind_one _ _ _ _ _ c.in_ok-first.ensures.taken is))
-    (last_of_less _ _ _ label _ _ c.in_ok-first.ensures.taken (behind_one _ _ _ _ _ c.in_ok-first.ensures.taken is) last)),
-    )
+returns-clause-only c = λ first second label is last. (
+  (c.in_ok-first.ensures.only first _ (one_of c.args.words.now (Register first) _ is).takes).0,
+  (c.in_ok-second.ensures.only second _
+      (two_of c.in_ok-first.rest.now (Mark mark.Comma) (Register second) _ (behind_one _ _ _ _ _ c.in_ok-first.ensures.taken is)).takes).0,
+  c.in_ok-label.ensures.only label (behind_two _ _ _ _ _ _ _ c.in_ok-second.ensures.spelled
+      (behind_one _ _ _ _ _ c.in_ok-first.ensures.taken is))
+      (last_of_less _ _ _ label _ _ c.in_ok-second.ensures.spelled (behind_two _ _ _ _ _ _ _ c.in_ok-second.ensures.spelled
+      (behind_one _ _ _ _ _ c.in_ok-first.ensures.taken is))
+      (last_of_less _ _ _ label _ _ c.in_ok-first.ensures.taken (behind_one _ _ _ _ _ c.in_ok-first.ensures.taken is) last)),
+)

@@ -7,11 +7,11 @@ loop-listed-init c =
 
 pub loop-listed-preserved : goal.loop-listed-preserved
 loop-listed-preserved c =
-    item_more _ _ _ _ _ _ _ _ c.loop-listed.invariant c.in_ok-behind.ensures c.in_ok-rest.ensures.spelled
+    item_more _ _ _ _ _ _ _ _ c.loop-listed.invariant c.in_ok-behind.ensures.taken c.in_ok-rest.ensures.spelled
 
 pub returns-then-begins_with : goal.returns-then-begins_with
 returns-then-begins_with c =
-    item_last _ _ _ _ _ _ _ _ c.loop-listed.invariant c.in_ok-behind.ensures c.in_ok-after.ensures.spelled
+    item_last _ _ _ _ _ _ _ _ c.loop-listed.invariant c.in_ok-behind.ensures.taken c.in_ok-after.ensures.spelled
 
 pub returns : goal.returns
 returns c =

@@ -6,8 +6,8 @@ use Rattle.litmus_reading.proofs.test.read_words.Goals as goal
 
 pub returns-clause-words : goal.returns-clause-words
 returns-clause-words c =
-    of_words _ _ _ _ _ _ _ _ _ _ _ _ _ _ c.in_ok-inside.ensures c.in_ok-entries.ensures c.in_ok-harts.ensures
-    c.in_ok-rows.ensures c.in_ok-question.ensures
+    of_words _ _ _ _ _ _ _ _ _ _ _ _ _ _ c.in_ok-inside.ensures c.in_ok-entries.ensures c.in_ok-harts.ensures.row
+    c.in_ok-rows.ensures.table c.in_ok-question.ensures
     (subst (λ whole. AreLocations c.args.text.now whole c.args.names.now c.in_ok-locations.locations.items)
     c.as_slice-whole.ensures.value c.in_ok-locations.ensures)
     (c.len-count.ensures ∙ c.in_ok-locations.locations.ok.0) c.in_ok-observed.ensures
