@@ -8,3 +8,4 @@ pub mod OfMigration
 pub mod OfRuns
 mod OfLabels
 mod OfCores
+mod OfSuites

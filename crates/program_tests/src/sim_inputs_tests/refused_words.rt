@@ -139,7 +139,15 @@ smtsim outcomes --exists x=1 --story-svg - a
 smtsim outcomes --exists x=1 --story s --theme light a
 smtsim outcomes --exists x=1 --story-svg p --theme black a
 smtsim litmus
-smtsim litmus a b
+smtsim litmus a b --image i
+smtsim litmus @a --svg s
+smtsim litmus a --summary --image i
+smtsim litmus a --expect e --svg s
+smtsim litmus a --summary --expect e
+smtsim litmus a b --why --summary
+smtsim litmus a --why --expect e
+smtsim litmus a -
+smtsim litmus - --expect -
 smtsim litmus --states 0 a
 smtsim litmus --states 4294967296 a
 smtsim litmus --image i --svg s a

@@ -1,0 +1,131 @@
+-- The tests of a suite, one behind the other.
+use Rattle.std.specs.Prelude.{◌≡◌, ℕ, List, [], ◌∷◌, map, Option, Some, None, Result, Ok, Err, IfOk}
+use Rattle.std.proofs.Common.{refl, ap, ◌∙◌}
+use mathlib.Core.Logic.{inl, inr}
+use Rattle.std.specs.Io.KnownBytes.{Appends, Keeps}
+use Rattle.litmus_suites.specs.Sources.{GivenTest}
+use Rattle.litmus_suites.specs.Lines.{verdict_text}
+use Rattle.litmus_suites.specs.Expecting.{counterpart, met_of, met_text, taken}
+use Rattle.litmus_suites.specs.Counting.{noted}
+use Rattle.litmus_suites.specs.declared.verdict.TestLine.{TestLine}
+use Rattle.litmus_suites.specs.declared.expectation.Expectation.{Expectation}
+use Rattle.litmus_suites.specs.declared.counts.Differences.{Differences}
+use Rattle.litmus_suites.specs.Statuses.{worse, worst}
+use Rattle.sim_inputs.specs.declared.line.LitmusCommand.{LitmusCommand}
+use Rattle.command_parts.specs.declared.refused.Refused.{Refused}
+use Rattle.command_parts.specs.declared.refused.Refused.TheVariants.{Output}
+use Rattle.command_parts.specs.Refused.{exit_status_of}
+use Rattle.plain_commands.specs.Litmus.{LitmusComesTo}
+use Rattle.plain_commands.specs.Suite.{AllHaveCome, CameOf, HaveCome, IsMade, IsRefusedTest, IsSummaryOf, IsSummed, IsTold}
+use Rattle.plain_commands.specs.Suite.{refused_more, status_of}
+use Rattle.plain_commands.specs.declared.telling.{Telling.Telling, LineTelling.LineTelling}
+use Rattle.plain_commands.specs.declared.telling.Telling.TheVariants.{States, Lines}
+use Rattle.plain_commands.specs.declared.telling.LineTelling.TheVariants.{Comparison}
+
+-- what was printed of a line
+pub compared_so : (line : TestLine) (expected left : Expectation) (differences : Differences) (old new : Option (List ℕ))
+    → left.lines.items ≡ taken line.name.items expected.lines.items
+    → Appends old new (met_text line.name.items (counterpart line.name.items expected.lines.items) (verdict_text line.verdict))
+    → IsTold line (Comparison expected differences) (Comparison left
+    (noted (met_of (counterpart line.name.items expected.lines.items) (verdict_text line.verdict)) differences)) old new
+compared_so line expected left differences old new is_left printed = (left, is_left, refl, printed)
+
+pub summed_so : (states : ℕ) (line : TestLine) (before after : LineTelling) (old new : Option (List ℕ)) (status : ℕ)
+    → IsSummaryOf states line → IsTold line before after old new → status ≡ status_of line.verdict
+    → IsSummed states before after old new status
+summed_so states line before after old new status summary told is =
+    record { line = line; summary = summary; told = told; is = is }
+
+pub lines_so : (command : LitmusCommand) (before after : LineTelling) (old new : Option (List ℕ)) (status : ℕ)
+    → IsSummed command.states before after old new status → IsMade command (Lines before) (Lines after) old new status
+lines_so command before after old new status summed = (after, refl, summed)
+
+-- what a test comes to, whatever is put into its file
+pub unkept : (command : LitmusCommand) (Put : List ℕ → Type 0) (old new : Option (List ℕ)) (status : ℕ)
+    → LitmusComesTo command Put old new status → LitmusComesTo command (λ bytes. Unit {0}) old new status
+unkept command Put old new status is = record {
+  test = is.test;
+  well_formed = is.well_formed;
+  comes = elim is.comes [
+    | inl all ↦ inl (record {
+      image = all.image;
+      watch = all.watch;
+      searched = all.searched;
+      kept = λ wanted none. tt;
+      found = all.found;
+      all = all.all;
+      cores = all.cores;
+      once = all.once;
+      told = all.told;
+      zero = all.zero;
+    })
+    | inr more ↦ inr (record {
+      image = more.image;
+      watch = more.watch;
+      searched = more.searched;
+      kept = λ wanted none. tt;
+      beyond = more.beyond;
+      printed = more.printed;
+      three = more.three;
+    })
+  ];
+}
+
+pub states_so : (command : LitmusCommand) (Put : List ℕ → Type 0) (old new : Option (List ℕ)) (answer : Result ℕ Refused)
+    → IfOk answer (LitmusComesTo command Put old new) → IfOk answer (IsMade command States States old new)
+states_so command Put old new (Ok status) is = (refl, unkept command Put old new status is)
+states_so command Put old new (Err why) is = tt
+
+-- what came of a test
+pub made_so : {S : Type 0} (hears : S → Refused → S → Type 0) (command : LitmusCommand) (text : List ℕ) (source : S)
+    (before after : Telling) (old printed new : Option (List ℕ)) (status : ℕ)
+    → IsMade command before after old printed status → Keeps printed new
+    → CameOf hears command (Ok text) source source before after old new status
+made_so hears command text source before after old printed new status made flushed =
+    inl (refl, record { printed = printed; made = made; flushed = flushed })
+
+pub refused_so : {S : Type 0} (hears : S → Refused → S → Type 0) (command : LitmusCommand) (text : List ℕ)
+    (given left : S) (before mid after : Telling) (old new : Option (List ℕ)) (reason : Refused) (status : ℕ)
+    → IsRefusedTest command text before mid old new reason → (reason ≡ Output → ⊥) → hears given reason left
+    → after ≡ refused_more mid → status ≡ exit_status_of reason
+    → CameOf hears command (Ok text) given left before after old new status
+refused_so hears command text given left before mid after old new reason status refused other heard counts is =
+    elim refused.1 [
+      | inl output ↦ absurd (other output)
+      | inr same ↦ inr (record {
+        reason = reason;
+        refusal = refused.0;
+        heard = heard;
+        counts = counts ∙ ap refused_more same.0;
+        unprinted = same.1;
+        is = is;
+      })
+    ]
+
+module _ {S : Type 0} (gives : S → Option GivenTest → S → Type 0) (hears : S → Refused → S → Type 0)
+    (command : LitmusCommand) where
+  -- so many have come, and this is the worst status so far
+  pub record HaveComeSo (source left : S) (before after : Telling) (old new : Option (List ℕ)) (status : ℕ) : Type 0 where
+    pub tests : List (GivenTest × ℕ)
+    pub come : HaveCome gives hears command tests source left before after old new
+    pub worst_is : status ≡ worst (map (λ test. test.1) tests)
+
+  pub none_so : (source : S) (before : Telling) (old : Option (List ℕ))
+      → HaveComeSo source source before before old old 0
+  none_so source before old = record { tests = []; come = (refl, refl, refl); worst_is = refl }
+
+  pub one_more : (source earlier given left : S) (before between after : Telling) (old mid new : Option (List ℕ))
+      (test : GivenTest) (status came more : ℕ) → HaveComeSo source earlier before between old mid status
+      → gives earlier (Some test) given → CameOf hears command test given left between after mid new came
+      → more ≡ worse status came → HaveComeSo source left before after old new more
+  one_more source earlier given left before between after old mid new test status came more so is_given is_came is = record {
+    tests = (test, came) ∷ so.tests;
+    come = (earlier, given, between, mid, so.come, is_given, is_came);
+    worst_is = is ∙ ap (λ w. worse w came) so.worst_is;
+  }
+
+  pub all_so : (source last left : S) (before after : Telling) (old new : Option (List ℕ)) (status : ℕ)
+      → HaveComeSo source last before after old new status → gives last None left
+      → AllHaveCome gives hears command source left before after old new status
+  all_so source last left before after old new status so ended =
+      record { tests = so.tests; last = last; come = so.come; ended = ended; worst_is = so.worst_is }
