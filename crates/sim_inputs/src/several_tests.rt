@@ -27,24 +27,30 @@ pub fn tests_asked<'a>(words: &'a [&'a str], alloc: Global) -> Result<Vec<&'a st
         return Err(AllocError);
     };
     match matches.subcommand() {
-        Some((_, found)) => Vec::from_slice(alloc, tests_in(found)),
+        Some((_, found)) => names_found(found, alloc),
         None => Ok(Vec::new(alloc)),
     }
 }
 
-/// The names that were found for TEST.
-fn tests_in<'m, 'a>(found: &'m ArgMatches<'a>) -> &'m [&'a str]
-    ensures { map (λ test. test.now) result.now ≡ tests_in (rows_of (found_of found.now)) }
+/// The names that were found for TEST. Fails only for want of memory.
+fn names_found<'a>(found: &ArgMatches<'a>, alloc: Global) -> Result<Vec<&'a str>, AllocError>
+    ensures { IfOk result (λ tests. map (λ test. test.now) tests.items
+        ≡ tests_in (rows_of (found_of found.now))) }
 {
-    found.get_strs("TEST").unwrap_or(&[])
+    match found.get_strs("TEST") {
+        Some(names) => Vec::from_slice(alloc, names),
+        None => Ok(Vec::new(alloc)),
+    }
 }
 
 /// Whether there are more of them than one, or one is of a list.
 pub(crate) fn are_several(found: &ArgMatches<'_>) -> bool
     ensures { result ≡ are_several (tests_in (rows_of (found_of found.now))) }
 {
-    let names = tests_in(found);
-    names.len() > 1 || any_list(names)
+    match found.get_strs("TEST") {
+        Some(names) => names.len() > 1 || any_list(names),
+        None => false,
+    }
 }
 
 fn any_list(names: &[&str]) -> bool
@@ -72,7 +78,10 @@ pub fn names_list(name: &str) -> bool
 pub(crate) fn names_input(found: &ArgMatches<'_>) -> bool
     ensures { result ≡ names_input (tests_in (rows_of (found_of found.now))) }
 {
-    any_input(tests_in(found))
+    match found.get_strs("TEST") {
+        Some(names) => any_input(names),
+        None => false,
+    }
 }
 
 fn any_input(names: &[&str]) -> bool
