@@ -9,3 +9,4 @@ pub mod OfRuns
 mod OfLabels
 mod OfCores
 mod OfSuites
+mod OfSuiteLine

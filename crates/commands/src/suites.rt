@@ -29,7 +29,8 @@ pub enum SuiteRefused {
 impl SuiteRefused {
     /// The exit status of the program.
     pub fn exit_status(self) -> u8
-        ensures { result ≡ suite_status_of self }
+        ensures status { result ≡ suite_status_of self }
+        ensures known { IsKnown result }
     {
         match self {
             SuiteRefused::Line(refused) => refused.exit_status(),

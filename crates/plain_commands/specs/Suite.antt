@@ -17,7 +17,7 @@ use Rattle.litmus_suites.specs.Counting.{counted, counted_refused, counts_text, 
 use Rattle.litmus_suites.specs.Counting.{status_of as status_of_differences}
 use Rattle.litmus_suites.specs.declared.verdict.{TestLine.TestLine, Verdict.Verdict}
 use Rattle.litmus_suites.specs.declared.verdict.Verdict.TheVariants.{Whole, NotComplete}
-use Rattle.litmus_suites.specs.declared.expectation.Expectation.{Expectation}
+use Rattle.litmus_suites.specs.declared.expectation.{Expectation.Expectation, Met.Met}
 use Rattle.litmus_suites.specs.declared.counts.Differences.{Differences}
 use Rattle.sim_inputs.specs.declared.line.LitmusCommand.{LitmusCommand}
 use Rattle.command_parts.specs.declared.refused.Refused.{Refused}
@@ -95,6 +95,11 @@ abbrev pub IsRefusedTest : LitmusCommand → List ℕ → Telling → Telling �
     → Type 0
 IsRefusedTest command text before after old new reason = IsLitmusRefusal text command reason
     × ((reason ≡ Output) ⊎ ((after ≡ before) × (new ≡ old)))
+
+-- One more test that is this beside the line that it takes.
+abbrev pub noted_line : Met → LineTelling → LineTelling
+noted_line met (Summary counts) = Summary counts
+noted_line met (Comparison expected differences) = Comparison expected (noted met differences)
 
 -- One more test that is refused, or isn't there.
 abbrev pub refused_line : LineTelling → LineTelling

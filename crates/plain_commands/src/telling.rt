@@ -7,14 +7,14 @@ ghost use Rattle.litmus_suites.specs.Counting.{differences_text, status_of as st
 ghost use Rattle.command_parts.specs.declared.refused.Refused.TheVariants.{Output};
 ghost use Rattle.plain_commands.specs.Litmus.{IsTextRefusal};
 ghost use Rattle.plain_commands.specs.Suite.{AreFinished, IsFinished, IsMade, IsRefusedTest, IsSummed, IsTold};
-ghost use Rattle.plain_commands.specs.Suite.{refused_line, refused_more, status_of, with_gone};
+ghost use Rattle.plain_commands.specs.Suite.{noted_line, refused_line, refused_more, status_of, with_gone};
 
 use crate::litmus::perform_litmus;
 use crate::litmus_summary::summary_of;
 use actors::Gate;
 use command_parts::Refused;
 use event_text::Over;
-use litmus_suites::{Counts, Differences, Expectation, TestLine, Verdict};
+use litmus_suites::{Counts, Differences, Expectation, Met, TestLine, Verdict};
 use sim_inputs::LitmusCommand;
 use std::alloc::Global;
 use std::io::Write;
@@ -74,8 +74,8 @@ impl Telling<'_> {
 
     /// Prints what comes behind all tests. Answers the exit status: 1 where something differs from what is expected,
     /// else 0.
-    pub(crate) fn finish<W: Write>(&mut self, out: &mut W) -> Result<u8, Refused>
-        ensures finished { IfOk result (IsFinished self.old (W.contents out.old) (W.contents out.new)) }
+    pub(crate) fn finish<W: Write>(&self, out: &mut W) -> Result<u8, Refused>
+        ensures finished { IfOk result (IsFinished self.now (W.contents out.old) (W.contents out.new)) }
         ensures refused { IfErr result (λ reason. reason ≡ Output) }
     {
         match self {
@@ -123,13 +123,22 @@ impl LineTelling<'_> {
                     Err(_) => Err(Refused::Output),
                 }
             }
-            LineTelling::Comparison(expected, differences) => match expected.meet(line, out) {
+            LineTelling::Comparison(expected, _) => match expected.meet(line, out) {
                 Ok(met) => {
-                    differences.count(met);
+                    self.note(met);
                     Ok(())
                 }
                 Err(_) => Err(Refused::Output),
             },
+        }
+    }
+
+    /// Counts a test that is this beside the line that it takes.
+    fn note(&mut self, met: Met)
+        ensures { self.new ≡ noted_line met self.old }
+    {
+        if let LineTelling::Comparison(_, differences) = self {
+            differences.count(met);
         }
     }
 
@@ -144,8 +153,8 @@ impl LineTelling<'_> {
     }
 
     /// Prints what comes behind all tests. Answers the exit status.
-    fn finish<W: Write>(&mut self, out: &mut W) -> Result<u8, Refused>
-        ensures finished { IfOk result (AreFinished self.old (W.contents out.old) (W.contents out.new)) }
+    fn finish<W: Write>(&self, out: &mut W) -> Result<u8, Refused>
+        ensures finished { IfOk result (AreFinished self.now (W.contents out.old) (W.contents out.new)) }
         ensures refused { IfErr result (λ reason. reason ≡ Output) }
     {
         match self {

@@ -1,5 +1,9 @@
 //! The tests of a line that names several, read from their files one at a time.
 
+ghost use Rattle.std.specs.Prelude.{◌≡◌};
+ghost use Rattle.plain_commands.specs.Suite.{IsKnown};
+ghost use Rattle.commands.specs.Suites.{suite_status_of};
+
 use crate::files::read_file;
 use crate::hinting::Hinting;
 use crate::test_names::{Absent, TestNames};
@@ -61,7 +65,10 @@ impl<'a, S: Files + Input, E: Write> TestFiles<'a, S, E> {
         refused: SuiteRefused,
         inputs: Inputs<'_>,
         files: FileFaults,
-    ) -> u8 {
+    ) -> u8
+        ensures status { result ≡ suite_status_of refused }
+        ensures known { IsKnown result }
+    {
         let _ = writeln!(self.err, "smtsim: {refused}");
         match refused {
             SuiteRefused::Line(reason) => {
