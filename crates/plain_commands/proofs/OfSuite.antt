@@ -1,6 +1,6 @@
 -- The tests of a suite, one behind the other.
 use Rattle.std.specs.Prelude.{◌≡◌, ℕ, List, [], ◌∷◌, map, Option, Some, None, Result, Ok, Err, IfOk}
-use Rattle.std.proofs.Common.{refl, ap, ◌∙◌}
+use Rattle.std.proofs.Common.{refl, sym, ap, subst, ◌∙◌}
 use mathlib.Core.Logic.{inl, inr}
 use Rattle.std.specs.Io.KnownBytes.{Appends, Keeps}
 use Rattle.litmus_suites.specs.Sources.{GivenTest}
@@ -8,7 +8,7 @@ use Rattle.litmus_suites.specs.Lines.{verdict_text}
 use Rattle.litmus_suites.specs.Expecting.{counterpart, met_of, met_text, taken}
 use Rattle.litmus_suites.specs.Counting.{noted}
 use Rattle.litmus_suites.specs.declared.verdict.TestLine.{TestLine}
-use Rattle.litmus_suites.specs.declared.expectation.Expectation.{Expectation}
+use Rattle.litmus_suites.specs.declared.expectation.{Expectation.Expectation, Met.Met}
 use Rattle.litmus_suites.specs.declared.counts.Differences.{Differences}
 use Rattle.litmus_suites.specs.Statuses.{worse, worst}
 use Rattle.sim_inputs.specs.declared.line.LitmusCommand.{LitmusCommand}
@@ -17,18 +17,22 @@ use Rattle.command_parts.specs.declared.refused.Refused.TheVariants.{Output}
 use Rattle.command_parts.specs.Refused.{exit_status_of}
 use Rattle.plain_commands.specs.Litmus.{LitmusComesTo}
 use Rattle.plain_commands.specs.Suite.{AllHaveCome, CameOf, HaveCome, IsMade, IsRefusedTest, IsSummaryOf, IsSummed, IsTold}
-use Rattle.plain_commands.specs.Suite.{refused_more, status_of}
+use Rattle.plain_commands.specs.Suite.{noted_line, refused_more, status_of}
 use Rattle.plain_commands.specs.declared.telling.{Telling.Telling, LineTelling.LineTelling}
 use Rattle.plain_commands.specs.declared.telling.Telling.TheVariants.{States, Lines}
 use Rattle.plain_commands.specs.declared.telling.LineTelling.TheVariants.{Comparison}
 
 -- what was printed of a line
-pub compared_so : (line : TestLine) (expected left : Expectation) (differences : Differences) (old new : Option (List ℕ))
+pub compared_so : (line : TestLine) (before after : LineTelling) (expected left : Expectation) (differences : Differences)
+    (met : Met) (old new : Option (List ℕ)) → before ≡ Comparison expected differences
+    → after ≡ noted_line met (Comparison left differences)
     → left.lines.items ≡ taken line.name.items expected.lines.items
+    → met ≡ met_of (counterpart line.name.items expected.lines.items) (verdict_text line.verdict)
     → Appends old new (met_text line.name.items (counterpart line.name.items expected.lines.items) (verdict_text line.verdict))
-    → IsTold line (Comparison expected differences) (Comparison left
-    (noted (met_of (counterpart line.name.items expected.lines.items) (verdict_text line.verdict)) differences)) old new
-compared_so line expected left differences old new is_left printed = (left, is_left, refl, printed)
+    → IsTold line before after old new
+compared_so line before after expected left differences met old new is_before is_after is_left is_met printed =
+    subst (λ (b : LineTelling). IsTold line b after old new) (sym is_before)
+    (left, is_left, is_after ∙ ap (λ (m : Met). Comparison left (noted m differences)) is_met, printed)
 
 pub summed_so : (states : ℕ) (line : TestLine) (before after : LineTelling) (old new : Option (List ℕ)) (status : ℕ)
     → IsSummaryOf states line → IsTold line before after old new → status ≡ status_of line.verdict
@@ -71,10 +75,17 @@ unkept command Put old new status is = record {
   ];
 }
 
-pub states_so : (command : LitmusCommand) (Put : List ℕ → Type 0) (old new : Option (List ℕ)) (answer : Result ℕ Refused)
+made_states : (command : LitmusCommand) (Put : List ℕ → Type 0) (old new : Option (List ℕ)) (answer : Result ℕ Refused)
     → IfOk answer (LitmusComesTo command Put old new) → IfOk answer (IsMade command States States old new)
-states_so command Put old new (Ok status) is = (refl, unkept command Put old new status is)
-states_so command Put old new (Err why) is = tt
+made_states command Put old new (Ok status) is = (refl, unkept command Put old new status is)
+made_states command Put old new (Err why) is = tt
+
+pub states_so : (command : LitmusCommand) (telling : Telling) (Put : List ℕ → Type 0) (old new : Option (List ℕ))
+    (answer : Result ℕ Refused) → telling ≡ States → IfOk answer (LitmusComesTo command Put old new)
+    → IfOk answer (IsMade command telling telling old new)
+states_so command telling Put old new answer same is =
+    subst (λ (t : Telling). IfOk answer (IsMade command t t old new)) (sym same)
+    (made_states command Put old new answer is)
 
 -- what came of a test
 pub made_so : {S : Type 0} (hears : S → Refused → S → Type 0) (command : LitmusCommand) (text : List ℕ) (source : S)

@@ -13,3 +13,17 @@ returns-in-Whole-clause-says g c =
     (record { is_image = c.in-Ok.ensures; registers = watched.registers; words = watched.words })
     c.in-Ok-find_shown.outcomes (found.found.all whole) (found.found.cores whole) found.once c.whole_verdict.result
     c.whole_verdict.ensures.says
+
+pub returns-in-Ok-find_shown : goal.returns-in-Ok-find_shown
+returns-in-Ok-find_shown g c =
+    let watched = c.watch_of-watch.ensures in
+    let found = c.in-Ok-find_shown.ensures in
+    let beyond = beyond_of c.in-Ok-find_shown.outcomes c.extent.result c.extent.ensures
+    (λ first. (found.asked first).2) c.in-Beyond.is in
+    record {
+      says = more_said c.args.test.now c.args.states c.in-Ok.image c.watch_of-watch.result c.harts_of.result
+          c.harts_of.ensures
+          (record { is_image = c.in-Ok.ensures; registers = watched.registers; words = watched.words })
+          (found.found.beyond beyond);
+      refused = tt;
+    }
