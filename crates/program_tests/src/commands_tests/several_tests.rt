@@ -82,11 +82,12 @@ fn command(summary: bool, expect: Option<&'static str>) -> LitmusCommand<'static
 fn come_to<R: Threads + Wait + Abort + Sync>(
     rt: &R,
     texts: &[Option<&str>],
-    litmus: LitmusCommand<'_>,
+    asked: (bool, Option<&'static str>),
     summary: &str,
     expected: (u8, &str, usize),
     alloc: Global,
 ) {
+    let litmus = command(asked.0, asked.1);
     let mut out = Vec::new(alloc);
     let inputs = read_inputs_of(b"", b"", summary.as_bytes());
     let mut source = Texts {
@@ -120,7 +121,7 @@ fn the_states_of_one_stand_behind_those_of_the_other(rt: HostRuntime) {
     come_to(
         &rt,
         &texts,
-        command(false, None),
+        (false, None),
         "",
         (2, twice.as_str(), 1),
         rt.alloc(),
@@ -134,7 +135,7 @@ fn a_summary_has_a_line_each(rt: HostRuntime) {
     come_to(
         &rt,
         &[Some(ONE), Some(WAITING)],
-        command(true, None),
+        (true, None),
         "",
         (0, lines, 0),
         rt.alloc(),
@@ -151,7 +152,7 @@ fn what_differs_from_a_summary_is_told(rt: HostRuntime) {
     come_to(
         &rt,
         &texts,
-        command(false, Some("before")),
+        (false, Some("before")),
         before,
         (1, differs, 0),
         rt.alloc(),
