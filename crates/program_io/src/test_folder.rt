@@ -66,12 +66,9 @@ impl TestFolder {
             };
             let next = self.path_of(name.as_slice(), alloc);
             self.taken = self.taken.saturating_add(1);
-            match next {
-                Ok(path) if is_folder(system, path.as_str()) => {}
-                other => {
-                    self.is_empty = false;
-                    return Some(other);
-                }
+            if !leads_to_folder(system, &next) {
+                self.is_empty = false;
+                return Some(next);
             }
         }
         if !self.is_empty {
@@ -98,6 +95,14 @@ impl TestFolder {
             Ok(path) => Ok(path),
             Err(_) => Err(Absent::for_memory(alloc)),
         }
+    }
+}
+
+/// Whether there is a folder at a path, if there is one.
+fn leads_to_folder<S: Files>(system: &S, path: &Result<String, Absent>) -> bool {
+    match path {
+        Ok(path) => is_folder(system, path.as_str()),
+        Err(_) => false,
     }
 }
 
