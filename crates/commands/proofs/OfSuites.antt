@@ -45,17 +45,17 @@ known_verdict : (verdict : Verdict) → IsKnown (status_of verdict)
 known_verdict (Whole held others asked stuck) = known_0
 known_verdict NotComplete = known_3
 
-known_litmus : (command : LitmusCommand) (Put : List ℕ → Type 0) (old new : Option (List ℕ)) (status : ℕ)
-    → LitmusComesTo command Put old new status → IsKnown status
-known_litmus command Put old new status is = elim is.comes [
+known_litmus : (text : List ℕ) (command : LitmusCommand) (Put : List ℕ → Type 0) (old new : Option (List ℕ)) (status : ℕ)
+    → LitmusComesTo text command Put old new status → IsKnown status
+known_litmus text command Put old new status is = elim is.comes [
   | inl all ↦ known_as status 0 all.zero known_0
   | inr more ↦ known_as status 3 more.three known_3
 ]
 
-known_made : (command : LitmusCommand) (before after : Telling) (old new : Option (List ℕ)) (status : ℕ)
-    → IsMade command before after old new status → IsKnown status
-known_made command States after old new status made = known_litmus command _ old new status made.1
-known_made command (Lines lines) after old new status made =
+known_made : (text : List ℕ) (command : LitmusCommand) (before after : Telling) (old new : Option (List ℕ)) (status : ℕ)
+    → IsMade text command before after old new status → IsKnown status
+known_made text command States after old new status made = known_litmus text command _ old new status made.1
+known_made text command (Lines lines) after old new status made =
     known_as status (status_of made.2.line.verdict) made.2.is (known_verdict made.2.line.verdict)
 
 module _ {S : Type 0} (gives : S → Option GivenTest → S → Type 0) (hears : S → Refused → S → Type 0)
@@ -63,7 +63,7 @@ module _ {S : Type 0} (gives : S → Option GivenTest → S → Type 0) (hears :
   known_came : (test : GivenTest) (given left : S) (before after : Telling) (old new : Option (List ℕ)) (status : ℕ)
       → CameOf hears command test given left before after old new status → IsKnown status
   known_came (Ok text) given left before after old new status came = elim came [
-    | inl made ↦ known_made command before after old made.1.printed status made.1.made
+    | inl made ↦ known_made text command before after old made.1.printed status made.1.made
     | inr refused ↦ known_refusal refused.reason status refused.is
   ]
   known_came (Err why) given left before after old new status came =

@@ -54,13 +54,14 @@ module _ (litmus : LitmusCommand) (text file : List ℕ) (settings : Settings)
 
   -- A flush changes nothing of what it comes to.
   pub test_flushed : (Traced : ToWrite → Type 0) (old mid new : Option (List ℕ)) (status : ℕ)
-      → LitmusComesTo litmus (λ bytes. Traced (TextOf bytes)) old mid status → Keeps mid new
+      → LitmusComesTo file litmus (λ bytes. Traced (TextOf bytes)) old mid status → Keeps mid new
       → LitmusLineComesTo litmus (Ok text) (Ok file) Traced old new status
   test_flushed Traced old mid new status is flushed = (
     settings,
     configured,
     record {
       test = is.test;
+      is_text = is.is_text;
       well_formed = is.well_formed;
       comes = elim is.comes [
         | inl all ↦ inl (record {

@@ -114,7 +114,7 @@ IsLitmusLineRefusal litmus config test reason =
 abbrev pub LitmusLineComesTo : LitmusCommand → Read → Read → (ToWrite → Type 0) → Option (List ℕ)
     → Option (List ℕ) → ℕ → Type 0
 LitmusLineComesTo litmus config test Traced old new status = OfSettings config (λ settings. OfFile test (λ text.
-    LitmusComesTo litmus (λ file. Traced (TextOf file)) old new status))
+    LitmusComesTo text litmus (λ file. Traced (TextOf file)) old new status))
 
 -- When each refusal comes of a migration: the configuration is looked at first, then the trace. A file that
 -- can't be read is refused where it is looked at.

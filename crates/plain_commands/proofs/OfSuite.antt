@@ -34,21 +34,23 @@ compared_so line before after expected left differences met old new is_before is
     subst (λ (b : LineTelling). IsTold line b after old new) (sym is_before)
     (left, is_left, is_after ∙ ap (λ (m : Met). Comparison left (noted m differences)) is_met, printed)
 
-pub summed_so : (states : ℕ) (line : TestLine) (before after : LineTelling) (old new : Option (List ℕ)) (status : ℕ)
-    → IsSummaryOf states line → IsTold line before after old new → status ≡ status_of line.verdict
-    → IsSummed states before after old new status
-summed_so states line before after old new status summary told is =
+pub summed_so : (text : List ℕ) (states : ℕ) (line : TestLine) (before after : LineTelling) (old new : Option (List ℕ))
+    (status : ℕ) → IsSummaryOf text states line → IsTold line before after old new → status ≡ status_of line.verdict
+    → IsSummed text states before after old new status
+summed_so text states line before after old new status summary told is =
     record { line = line; summary = summary; told = told; is = is }
 
-pub lines_so : (command : LitmusCommand) (before after : LineTelling) (old new : Option (List ℕ)) (status : ℕ)
-    → IsSummed command.states before after old new status → IsMade command (Lines before) (Lines after) old new status
-lines_so command before after old new status summed = (after, refl, summed)
+pub lines_so : (text : List ℕ) (command : LitmusCommand) (before after : LineTelling) (old new : Option (List ℕ))
+    (status : ℕ) → IsSummed text command.states before after old new status
+    → IsMade text command (Lines before) (Lines after) old new status
+lines_so text command before after old new status summed = (after, refl, summed)
 
 -- what a test comes to, whatever is put into its file
-pub unkept : (command : LitmusCommand) (Put : List ℕ → Type 0) (old new : Option (List ℕ)) (status : ℕ)
-    → LitmusComesTo command Put old new status → LitmusComesTo command (λ bytes. Unit {0}) old new status
-unkept command Put old new status is = record {
+pub unkept : (text : List ℕ) (command : LitmusCommand) (Put : List ℕ → Type 0) (old new : Option (List ℕ)) (status : ℕ)
+    → LitmusComesTo text command Put old new status → LitmusComesTo text command (λ bytes. Unit {0}) old new status
+unkept text command Put old new status is = record {
   test = is.test;
+  is_text = is.is_text;
   well_formed = is.well_formed;
   comes = elim is.comes [
     | inl all ↦ inl (record {
@@ -75,22 +77,23 @@ unkept command Put old new status is = record {
   ];
 }
 
-made_states : (command : LitmusCommand) (Put : List ℕ → Type 0) (old new : Option (List ℕ)) (answer : Result ℕ Refused)
-    → IfOk answer (LitmusComesTo command Put old new) → IfOk answer (IsMade command States States old new)
-made_states command Put old new (Ok status) is = (refl, unkept command Put old new status is)
-made_states command Put old new (Err why) is = tt
+made_states : (text : List ℕ) (command : LitmusCommand) (Put : List ℕ → Type 0) (old new : Option (List ℕ))
+    (answer : Result ℕ Refused) → IfOk answer (LitmusComesTo text command Put old new)
+    → IfOk answer (IsMade text command States States old new)
+made_states text command Put old new (Ok status) is = (refl, unkept text command Put old new status is)
+made_states text command Put old new (Err why) is = tt
 
-pub states_so : (command : LitmusCommand) (telling : Telling) (Put : List ℕ → Type 0) (old new : Option (List ℕ))
-    (answer : Result ℕ Refused) → telling ≡ States → IfOk answer (LitmusComesTo command Put old new)
-    → IfOk answer (IsMade command telling telling old new)
-states_so command telling Put old new answer same is =
-    subst (λ (t : Telling). IfOk answer (IsMade command t t old new)) (sym same)
-    (made_states command Put old new answer is)
+pub states_so : (text : List ℕ) (command : LitmusCommand) (telling : Telling) (Put : List ℕ → Type 0)
+    (old new : Option (List ℕ)) (answer : Result ℕ Refused) → telling ≡ States
+    → IfOk answer (LitmusComesTo text command Put old new) → IfOk answer (IsMade text command telling telling old new)
+states_so text command telling Put old new answer same is =
+    subst (λ (t : Telling). IfOk answer (IsMade text command t t old new)) (sym same)
+    (made_states text command Put old new answer is)
 
 -- what came of a test
 pub made_so : {S : Type 0} (hears : S → Refused → S → Type 0) (command : LitmusCommand) (text : List ℕ) (source : S)
     (before after : Telling) (old printed new : Option (List ℕ)) (status : ℕ)
-    → IsMade command before after old printed status → Keeps printed new
+    → IsMade text command before after old printed status → Keeps printed new
     → CameOf hears command (Ok text) source source before after old new status
 made_so hears command text source before after old printed new status made flushed =
     inl (refl, record { printed = printed; made = made; flushed = flushed })

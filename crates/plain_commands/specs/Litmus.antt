@@ -10,6 +10,7 @@ use Rattle.outcome_text.specs.Listing.{incomplete_text, ends_text}
 use Rattle.litmus_tests.specs.declared.test.LitmusTest.{LitmusTest}
 use Rattle.litmus_tests.specs.{WellFormed.IsWellFormed, Conditions.holding}
 use Rattle.litmus_words.specs.Places.{IsPlaceIn}
+use Rattle.litmus_reading.specs.Texts.{IsTextOf}
 use Rattle.litmus_images.specs.{Image.IsLitmusImage, Watching.registers_observed, Watching.words_observed}
 use Rattle.litmus_text.specs.States.{states_text, states_in}
 use Rattle.sim_inputs.specs.declared.line.LitmusCommand.{LitmusCommand}
@@ -75,10 +76,11 @@ abbrev pub TestComesTo : LitmusTest → LitmusCommand → (List ℕ → Type 0) 
 TestComesTo test command Put old new status =
     PrintsAllStates test command Put old new status ⊎ PrintsIncompleteTest test command Put old new status
 
--- So it does with the test that was read.
-pub record LitmusComesTo (command : LitmusCommand) (Put : List ℕ → Type 0) (old new : Option (List ℕ))
+-- So it does with the test that the text is.
+pub record LitmusComesTo (text : List ℕ) (command : LitmusCommand) (Put : List ℕ → Type 0) (old new : Option (List ℕ))
     (exit_status : ℕ) : Type 0 where
   pub test : LitmusTest
+  pub is_text : IsTextOf text test
   pub well_formed : IsWellFormed test
   pub comes : TestComesTo test command Put old new exit_status
 

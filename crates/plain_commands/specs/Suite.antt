@@ -7,6 +7,7 @@ use Rattle.outcomes.specs.{Found.Found, Found.InEachSetup, Found.IsExactList, Fo
 use Rattle.shown_text.specs.Shown.{shown}
 use Rattle.litmus_tests.specs.declared.test.LitmusTest.{LitmusTest}
 use Rattle.litmus_tests.specs.{WellFormed.IsWellFormed}
+use Rattle.litmus_reading.specs.Texts.{IsTextOf}
 use Rattle.litmus_text.specs.Verdict.{verdict_of}
 use Rattle.litmus_text.specs.declared.verdict.StatesVerdict.{StatesVerdict}
 use Rattle.litmus_suites.specs.Sources.{GivenTest, no_test_status}
@@ -56,9 +57,10 @@ pub record SaysMoreStates (test : LitmusTest) (states : ℕ) (verdict : Verdict)
 abbrev pub Says : LitmusTest → ℕ → Verdict → Type 0
 Says test states verdict = SaysAllStates test verdict ⊎ SaysMoreStates test states verdict
 
--- So it is said in a line of the test that was read, by its name.
-pub record IsSummaryOf (states : ℕ) (line : TestLine) : Type 0 where
+-- So it is said in a line of the test that the text is, by its name.
+pub record IsSummaryOf (text : List ℕ) (states : ℕ) (line : TestLine) : Type 0 where
   pub test : LitmusTest
+  pub is_text : IsTextOf text test
   pub well_formed : IsWellFormed test
   pub named : line.name.items ≡ shown test.name.items
   pub says : Says test states line.verdict
@@ -79,16 +81,18 @@ IsTold line (Comparison expected differences) after old new =
 
 -- A test was made, and what is wanted of it is printed: of each all that is printed of it where it is alone, or a line. No
 -- file is written of one of several: what is put into the one that is made for it is lost.
-pub record IsSummed (states : ℕ) (before after : LineTelling) (old new : Option (List ℕ)) (status : ℕ) : Type 0 where
+pub record IsSummed (text : List ℕ) (states : ℕ) (before after : LineTelling) (old new : Option (List ℕ)) (status : ℕ)
+    : Type 0 where
   pub line : TestLine
-  pub summary : IsSummaryOf states line
+  pub summary : IsSummaryOf text states line
   pub told : IsTold line before after old new
   pub is : status ≡ status_of line.verdict
 
-abbrev pub IsMade : LitmusCommand → Telling → Telling → Option (List ℕ) → Option (List ℕ) → ℕ → Type 0
-IsMade command States after old new status = (after ≡ States) × LitmusComesTo command (λ bytes. Unit {0}) old new status
-IsMade command (Lines before) after old new status = (left : LineTelling) × (after ≡ Lines left)
-    × IsSummed command.states before left old new status
+abbrev pub IsMade : List ℕ → LitmusCommand → Telling → Telling → Option (List ℕ) → Option (List ℕ) → ℕ → Type 0
+IsMade text command States after old new status = (after ≡ States)
+    × LitmusComesTo text command (λ bytes. Unit {0}) old new status
+IsMade text command (Lines before) after old new status = (left : LineTelling) × (after ≡ Lines left)
+    × IsSummed text command.states before left old new status
 
 -- It is refused, and then nothing is printed, unless the output failed.
 abbrev pub IsRefusedTest : LitmusCommand → List ℕ → Telling → Telling → Option (List ℕ) → Option (List ℕ) → Refused
@@ -112,10 +116,10 @@ refused_more (Lines lines) = Lines (refused_line lines)
 
 -- What came of a test that a source has given, which stands so behind that: its exit status, what is printed, and how the
 -- source stands then. A refused one is told to the source.
-pub record HasMade (command : LitmusCommand) (before after : Telling) (old new : Option (List ℕ)) (status : ℕ)
-    : Type 0 where
+pub record HasMade (command : LitmusCommand) (text : List ℕ) (before after : Telling) (old new : Option (List ℕ))
+    (status : ℕ) : Type 0 where
   pub printed : Option (List ℕ)
-  pub made : IsMade command before after old printed status
+  pub made : IsMade text command before after old printed status
   pub flushed : Keeps printed new
 
 pub record HasRefused {S : Type 0} (hears : S → Refused → S → Type 0) (command : LitmusCommand) (text : List ℕ)
@@ -130,7 +134,7 @@ pub record HasRefused {S : Type 0} (hears : S → Refused → S → Type 0) (com
 abbrev pub CameOf : {S : Type 0} → (S → Refused → S → Type 0) → LitmusCommand → GivenTest → S → S → Telling → Telling
     → Option (List ℕ) → Option (List ℕ) → ℕ → Type 0
 CameOf hears command (Ok text) given left before after old new status =
-    ((left ≡ given) × HasMade command before after old new status)
+    ((left ≡ given) × HasMade command text before after old new status)
     ⊎ HasRefused hears command text given left before after old new status
 CameOf hears command (Err why) given left before after old new status = (left ≡ given) × (after ≡ refused_more before)
     × (new ≡ old) × (status ≡ no_test_status why)

@@ -5,6 +5,7 @@ ghost use Rattle.std.specs.Io.KnownBytes.{Appends};
 ghost use Rattle.elf_image.specs.Written.{file_of};
 ghost use Rattle.event_text.specs.{Sinking.HasPut};
 ghost use Rattle.litmus_tests.specs.WellFormed.{IsWellFormed};
+ghost use Rattle.litmus_reading.specs.Texts.{IsTextOf};
 ghost use Rattle.litmus_text.specs.States.{states_text};
 ghost use Rattle.outcome_text.specs.Listing.{ends_text};
 ghost use Rattle.searches.specs.declared.extent.Extent.TheVariants.{Whole};
@@ -45,7 +46,7 @@ pub fn perform_litmus<G: Gate, S: EndFiles, W: Write>(
     requires finished { S.is_finished file.old ≡ true }
     ensures refused { IfErr result (IsLitmusRefusal text.now command.now) }
     ensures unprinted { IfErr result (λ reason. (reason ≡ Output) ⊎ (W.contents out.new ≡ W.contents out.old)) }
-    ensures ended { IfOk result (LitmusComesTo command.now
+    ensures ended { IfOk result (LitmusComesTo text.now command.now
         (HasPut S.written S.has_failed file.old file.new) (W.contents out.old) (W.contents out.new)) }
     ensures unwanted { is_some (written_for_test command.now) ≡ false → file.new ≡ file.old }
     ensures unbroken { OnOk result (S.has_failed file.new ≡ false) }
@@ -63,6 +64,7 @@ pub fn perform_litmus<G: Gate, S: EndFiles, W: Write>(
 /// The test that a text is.
 pub(crate) fn test_of(text: &[u8], alloc: Global) -> Result<LitmusTest, Refused>
     ensures sound { IfOk result IsWellFormed }
+    ensures read { IfOk result (IsTextOf text.now) }
     ensures refused { IfErr result (IsTextRefusal text.now) }
 {
     match read_litmus(text, alloc) {

@@ -29,7 +29,7 @@ pub(crate) fn summary_of<G: Gate>(
     gate: &G,
     alloc: Global,
 ) -> Result<TestLine, Refused>
-    ensures line { IfOk result (IsSummaryOf states) }
+    ensures line { IfOk result (IsSummaryOf text.now states) }
     ensures refused { IfErr result (IsTextRefusal text.now) }
 {
     let test = test_of(text, alloc)?;

@@ -49,7 +49,7 @@ impl Telling<'_> {
         alloc: Global,
     ) -> Result<u8, Refused>
         ensures made { IfOk result
-            (IsMade command.now self.old self.new (W.contents out.old) (W.contents out.new)) }
+            (IsMade text.now command.now self.old self.new (W.contents out.old) (W.contents out.new)) }
         ensures refused { IfErr result (IsRefusedTest command.now text.now self.old self.new (W.contents out.old)
             (W.contents out.new)) }
     {
@@ -96,7 +96,7 @@ impl LineTelling<'_> {
         alloc: Global,
     ) -> Result<u8, Refused>
         ensures made { IfOk result
-            (IsSummed states self.old self.new (W.contents out.old) (W.contents out.new)) }
+            (IsSummed text.now states self.old self.new (W.contents out.old) (W.contents out.new)) }
         ensures refused { IfErr result (λ reason. (reason ≡ Output)
             ⊎ (IsTextRefusal text.now reason × ((self.new ≡ self.old) × (W.contents out.new ≡ W.contents out.old)))) }
     {
