@@ -13,7 +13,7 @@ use Rattle.litmus_suites.specs.Counting.{status_of as status_of_differences}
 use Rattle.sim_inputs.specs.declared.line.LitmusCommand.{LitmusCommand}
 use Rattle.command_parts.specs.declared.refused.Refused.{Refused}
 use Rattle.plain_commands.specs.Litmus.{LitmusComesTo}
-use Rattle.plain_commands.specs.Suite.{CameOf, HaveCome, IsFinished, IsKnown, IsMade, SuiteComesTo, status_of}
+use Rattle.plain_commands.specs.Suite.{CameOf, HaveCome, IsFinished, IsKnown, IsMade, SuiteComesTo, status_of, with_gone}
 use Rattle.plain_commands.specs.declared.telling.Telling.{Telling}
 use Rattle.plain_commands.specs.declared.telling.Telling.TheVariants.{States, Lines}
 use Rattle.plain_commands.specs.declared.telling.LineTelling.TheVariants.{Summary, Comparison}
@@ -45,8 +45,8 @@ known_verdict : (verdict : Verdict) → IsKnown (status_of verdict)
 known_verdict (Whole held others asked stuck) = known_0
 known_verdict NotComplete = known_3
 
-known_litmus : (text : List ℕ) (command : LitmusCommand) (Put : List ℕ → Type 0) (old new : Option (List ℕ)) (status : ℕ)
-    → LitmusComesTo text command Put old new status → IsKnown status
+known_litmus : (text : List ℕ) (command : LitmusCommand) (Put : List ℕ → Type 0) (old new : Option (List ℕ))
+    (status : ℕ) → LitmusComesTo text command Put old new status → IsKnown status
 known_litmus text command Put old new status is = elim is.comes [
   | inl all ↦ known_as status 0 all.zero known_0
   | inr more ↦ known_as status 3 more.three known_3
@@ -89,7 +89,7 @@ module _ {S : Type 0} (gives : S → Option GivenTest → S → Type 0) (hears :
   known_finished States old new status is = known_as status 0 is.1 known_0
   known_finished (Lines (Summary counts)) old new status is = known_as status 0 is.1 known_0
   known_finished (Lines (Comparison expected differences)) old new status is =
-      known_as status _ is.1 (known_differences _)
+      known_as status _ is.1 (known_differences (with_gone expected differences))
 
   pub known_suite : (source left : S) (telling : Telling) (old new : Option (List ℕ)) (status : ℕ)
       → SuiteComesTo gives hears command source left telling old new status → IsKnown status
