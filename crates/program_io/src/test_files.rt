@@ -133,10 +133,7 @@ impl<S: Files + Input, E: Write> TestSource for TestFiles<'_, S, E> {
         };
         let _ = write_place(place.as_bytes(), self.err);
         let _ = writeln!(self.err, "{refused}");
-        let mut litmus = self.litmus;
-        litmus.test = self.path.as_str();
-        let mut line = *self.line;
-        line.command = Command::Litmus(litmus);
+        let line = line_of(self.line, &self.litmus, self.path.as_str());
         let fault = LineFault {
             refused,
             line: &line,
@@ -151,6 +148,26 @@ impl<S: Files + Input, E: Write> TestSource for TestFiles<'_, S, E> {
         if let Ok(said) = said_of(place.as_bytes(), &refused, self.hinting.alloc) {
             self.hinting.tell_test(said.as_str(), &fault, self.err);
         }
+    }
+}
+
+/// The line as if it named this test alone.
+fn line_of<'a>(line: &Line<'a>, litmus: &LitmusCommand<'a>, path: &'a str) -> Line<'a> {
+    let alone = LitmusCommand {
+        test: path,
+        states: litmus.states,
+        why: litmus.why,
+        image: litmus.image,
+        svg: litmus.svg,
+        summary: litmus.summary,
+        expect: litmus.expect,
+        several: litmus.several,
+    };
+    Line {
+        config: line.config,
+        harts: line.harts,
+        hints: line.hints,
+        command: Command::Litmus(alone),
     }
 }
 
