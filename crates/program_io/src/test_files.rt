@@ -126,29 +126,45 @@ impl<S: Files + Input, E: Write> TestSource for TestFiles<'_, S, E> {
     }
 
     fn tell(&mut self, text: &[u8], refused: Refused) {
-        let place = if self.is_alone {
-            ""
-        } else {
-            self.path.as_str()
-        };
+        let place = shown_place(self.is_alone, self.path.as_str());
         let _ = write_place(place.as_bytes(), self.err);
         let _ = writeln!(self.err, "{refused}");
         let line = line_of(self.line, &self.litmus, self.path.as_str());
-        let fault = LineFault {
-            refused,
-            line: &line,
-            inputs: Inputs {
-                config: Ok(&[]),
-                program: Ok(text),
-                second: Ok(&[]),
-                lines: Ok(&[]),
-            },
-            files: FileFaults::NONE,
-        };
         if let Ok(said) = said_of(place.as_bytes(), &refused, self.hinting.alloc) {
-            self.hinting.tell_test(said.as_str(), &fault, self.err);
+            tell_text(&self.hinting, said.as_str(), refused, &line, text, self.err);
         }
     }
+}
+
+/// What is told of the place of a fault: nothing where there is one file alone.
+fn shown_place(is_alone: bool, path: &str) -> &str {
+    if is_alone {
+        return "";
+    }
+    path
+}
+
+/// Writes the hint of a text that is refused as the test of a line, which is said so.
+fn tell_text<E: Write>(
+    hinting: &Hinting,
+    said: &str,
+    refused: Refused,
+    line: &Line<'_>,
+    text: &[u8],
+    err: &mut E,
+) {
+    let fault = LineFault {
+        refused,
+        line,
+        inputs: Inputs {
+            config: Ok(&[]),
+            program: Ok(text),
+            second: Ok(&[]),
+            lines: Ok(&[]),
+        },
+        files: FileFaults::NONE,
+    };
+    hinting.tell_test(said, &fault, err);
 }
 
 /// The line as if it named this test alone.
