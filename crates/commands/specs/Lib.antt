@@ -3,4 +3,5 @@ pub mod Perform
 pub mod Written
 pub mod Explain
 pub mod List
+pub mod Tested
 pub mod Typed

@@ -11,4 +11,6 @@ mod states;
 mod summary;
 mod value;
 
+pub use condition::write_condition;
+pub use state::write_state;
 pub use states::{holds_of_any, write_states};

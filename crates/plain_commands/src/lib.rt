@@ -3,9 +3,10 @@
 //! A module a command: `plain` and `plain_rounds` (an order, and turns without one), `schedule` (the script that
 //! makes a core retire in an order), `all_outcomes` and `litmus` (both over `searching`). Beside the first of these
 //! stand `asking` (its question, and what is watched), `settling` (which outcome answers it) and `written_orders` (the
-//! order that it writes), and beside `plain` too `drawn_orders` (the picture of an order's story). `retiring` has the
-//! law that a printed schedule is retired. What each command comes to, and when each of its refusals comes, stands in
-//! `specs` under the command's name.
+//! order that it writes), beside `litmus` `test_parts` (what it makes ready) and `state_orders` (the order that it
+//! writes), and beside `plain` too `drawn_orders` (the picture of an order's story). `retiring` has the law that a
+//! printed schedule is retired. What each command comes to, and when each of its refusals comes, stands in `specs`
+//! under the command's name.
 #![tactic(auto)]
 
 mod all_outcomes;
@@ -18,6 +19,8 @@ pub mod retiring;
 mod schedule;
 mod searching;
 mod settling;
+mod state_orders;
+mod test_parts;
 mod written_orders;
 mod written_stories;
 
@@ -27,4 +30,6 @@ pub use litmus::{perform_litmus, perform_test};
 pub use plain::{perform_plain, tell_image};
 pub use plain_rounds::{MOST_STEPS, perform_rounds, rounds_of};
 pub use schedule::perform_schedule;
+pub use searching::find_shown;
 pub use settling::status_of_answer;
+pub use test_parts::{put_image, settings_for, test_of};

@@ -256,5 +256,13 @@ pub fn litmus_line(why: bool) -> Line<'static> {
         why,
         image: None,
         svg: None,
+        outcome: None,
+        witness: None,
+        script: None,
+        story: None,
+        story_svg: None,
+        theme: None,
+        all: false,
+        run: None,
     },))
 }

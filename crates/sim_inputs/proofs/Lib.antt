@@ -11,4 +11,5 @@ pub mod Refusals
 pub mod Rows
 pub mod Searches
 pub mod Subcommand
+pub mod Tests
 pub mod Written

@@ -6,4 +6,5 @@ pub mod Files
 pub mod HintsWanted
 pub mod Rules
 pub mod Table
+pub mod TestOrders
 pub mod Themes

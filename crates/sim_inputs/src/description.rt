@@ -8,10 +8,10 @@ ghost use Rattle.sim_inputs.specs.Table.{own_arguments_in, rule_in, subcommand_i
 use crate::arguments::{
     ALL, Argument, CONFIG, COUNTS, EXISTS, EXPLAINED_ORDER, EXPLAINED_SCRIPT, EXPLAINED_TRACE,
     FIRST, FORALL, FROM, HART, HARTS, HARTS_BESIDE_TRACE, HINTS, IMAGE, JSON, KANATA, KEEP, Kind,
-    LINES, LOOKS, NAMES, NEVER, NEVER_STUCK, ORDER, ORDER_OR_ROUNDS, OUTCOME, RECORDS, ROUNDS,
-    SCRIPT, SEED, SHOW, STATES, STEPS, STORY, STORY_SVG, STUCK, SVG, SVG_OF_WHY, TEST, THEME,
-    TIMES, TO, TRACE, WATCH, WHY, WHY_ENDS, WHY_NEVER, WHY_REFUSED, WIDTH, WITNESS, WRITTEN_IMAGE,
-    WRITTEN_OUT, WRITTEN_SCRIPT, WRITTEN_STORY, WRITTEN_TRACE,
+    LINES, LOOKS, NAMES, NEVER, NEVER_STUCK, ORDER, ORDER_OR_ROUNDS, OUTCOME, OUTCOME_OF_TEST,
+    RECORDS, ROUNDS, RUN_TEST, SCRIPT, SEED, SHOW, STATES, STEPS, STORY, STORY_SVG, STUCK, SVG,
+    SVG_OF_WHY, TEST, THEME, TIMES, TO, TRACE, WATCH, WHY, WHY_ENDS, WHY_NEVER, WHY_REFUSED, WIDTH,
+    WITNESS, WRITTEN_IMAGE, WRITTEN_OUT, WRITTEN_SCRIPT, WRITTEN_STORY, WRITTEN_TRACE,
 };
 use crate::forms::{
     CHART_FORM, CONFIGURATION_FORM, LITMUS_FORM, MIGRATE_FORM, ORDER_FORM, OUTCOMES_FORM,
@@ -203,7 +203,22 @@ static OF_OTHERS: [Subcommand; 2] = [
     Subcommand {
         name: "litmus",
         about: "List every final state of a litmus test, as herd does",
-        arguments: &[TEST, CONFIG, STATES, WRITTEN_IMAGE, WHY_NEVER, SVG_OF_WHY],
+        arguments: &[
+            TEST,
+            CONFIG,
+            STATES,
+            WRITTEN_IMAGE,
+            WHY_NEVER,
+            SVG_OF_WHY,
+            OUTCOME_OF_TEST,
+            WITNESS,
+            WRITTEN_SCRIPT,
+            WRITTEN_STORY,
+            STORY_SVG,
+            THEME,
+            ALL,
+            RUN_TEST,
+        ],
         form: LITMUS_FORM,
     },
     Subcommand {

@@ -86,7 +86,8 @@ status is 0 for yes, 1 for no, and 3 where what was found does not tell.";
 pub(crate) const LITMUS_FORM: &str = "\
 TEST is a litmus test in herd's RISC-V format. The plain machine has as many
 harts as the test, whatever the configuration says, and a word of memory for
-each location. The states are printed as herd prints them, each once.";
+each location. The states are printed as herd prints them, each once. With --run
+they are counted over runs of the core, and printed as litmus7 prints them.";
 
 /// What a migration does, for the help of `migrate`.
 pub(crate) const MIGRATE_FORM: &str = "\

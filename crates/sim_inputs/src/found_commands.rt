@@ -6,7 +6,7 @@ ghost use Rattle.sim_inputs.specs.CommandLine.{Finds, IsBeside, IsChart, IsCheck
 ghost use Rattle.sim_inputs.specs.CommandLine.{IsLitmus, IsMigrate, IsOutcomes, IsPlain, IsRun, IsSchedule};
 ghost use Rattle.sim_inputs.specs.CommandLine.{IsScript, IsStep, IsQuestion, has_condition, has_no_file};
 ghost use Rattle.sim_inputs.specs.CommandLine.{are_orders_together, can_be_drawn};
-ghost use Rattle.sim_inputs.specs.CommandLine.{can_be_plain, can_be_run, can_be_searched, can_be_tested};
+ghost use Rattle.sim_inputs.specs.CommandLine.{can_be_plain, can_be_run, can_be_searched};
 ghost use Rattle.sim_inputs.specs.CommandLine.{are_stories_together, can_be_told, has_named_folder, has_one_file};
 ghost use Rattle.sim_inputs.specs.CommandLine.{has_one_story, has_story, is_reported, shows_story};
 
@@ -18,6 +18,7 @@ use crate::line::{
     OutcomesCommand, PlainCommand, QuestionText, RunCommand, ScheduleCommand, ScriptCommand,
     StepCommand,
 };
+use crate::test_orders::can_be_tested;
 use crate::themes::{can_be_themed, theme_in};
 use clap::ArgMatches;
 use numbers::sizes::{MOST_EVENTS, MOST_HARTS};
@@ -319,7 +320,7 @@ fn question_in<'a>(found: &ArgMatches<'a>) -> Option<Option<QuestionText<'a>>>
 }
 
 /// Whether some state is looked at, and the options of orders, of stories and of pictures go together.
-fn can_be_searched(outcomes: &OutcomesCommand<'_>) -> bool
+pub(crate) fn can_be_searched(outcomes: &OutcomesCommand<'_>) -> bool
     ensures { result ≡ can_be_searched outcomes.now }
 {
     outcomes.states >= 1
@@ -404,18 +405,19 @@ pub(crate) fn litmus_in<'a>(found: &ArgMatches<'a>) -> Option<LitmusCommand<'a>>
         why: is_set(found, "why"),
         image: value_of(found, "image"),
         svg: value_of(found, "svg"),
+        outcome: number(found, "outcome", u32::MAX)?,
+        witness: value_of(found, "witness"),
+        script: value_of(found, "script"),
+        story: value_of(found, "story"),
+        story_svg: value_of(found, "story-svg"),
+        theme: theme_in(found)?,
+        all: is_set(found, "all"),
+        run: number(found, "run", MOST_TIMES)?,
     };
     if !can_be_tested(&litmus) {
         return None;
     }
     Some(litmus)
-}
-
-/// Whether some state is looked at, and one file at most is written.
-fn can_be_tested(litmus: &LitmusCommand<'_>) -> bool
-    ensures { result ≡ can_be_tested litmus.now }
-{
-    litmus.states >= 1 && !(litmus.image.is_some() && litmus.svg.is_some())
 }
 
 pub(crate) fn migrate_in<'a>(found: &ArgMatches<'a>) -> Option<MigrateCommand<'a>>

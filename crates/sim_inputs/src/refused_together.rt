@@ -16,6 +16,10 @@ const fn refused(words: &'static str, expected: &'static str) -> Option<RefusedO
 /// What may stand in place of two options of which each excludes the other.
 const ONE_OF_THEM: &str = "one of them at most";
 
+/// What may stand beside what names an order.
+const AN_ORDERS_FILE: &str =
+    "--witness FILE, --script FILE, --story FILE or --story-svg FILE beside it";
+
 /// The first options of a command that don't go together, if there are some.
 pub(crate) fn refused_together(command: &str, found: &ArgMatches<'_>) -> Option<RefusedOptions> {
     match command {
@@ -25,9 +29,7 @@ pub(crate) fn refused_together(command: &str, found: &ArgMatches<'_>) -> Option<
         "chart" if has(found, "svg") && has(found, "kanata") => {
             refused("--svg --kanata", ONE_OF_THEM)
         }
-        "litmus" if has(found, "image") && has(found, "svg") => {
-            refused("--image --svg", ONE_OF_THEM)
-        }
+        "litmus" => refused_of_tests(found),
         "outcomes" => refused_of_outcomes(found),
         _ => None,
     }
@@ -144,6 +146,46 @@ fn refused_of_outcomes(found: &ArgMatches<'_>) -> Option<RefusedOptions> {
     None
 }
 
+/// Two files of a test, what is asked of its states beside runs of the core, and what `outcomes` refuses of an order.
+fn refused_of_tests(found: &ArgMatches<'_>) -> Option<RefusedOptions> {
+    let (run, why) = (has(found, "run"), has(found, "why"));
+    let (image, svg, outcome) = (
+        has(found, "image"),
+        has(found, "svg"),
+        has(found, "outcome"),
+    );
+    let words = match (run, why, image, svg, outcome) {
+        (true, true, _, _, _) => "--run --why",
+        (true, false, _, true, _) => "--run --svg",
+        (true, false, _, false, true) => "--run --outcome",
+        (_, _, true, true, _) => "--image --svg",
+        (_, _, true, false, true) => "--image --outcome",
+        (_, _, false, true, true) => "--svg --outcome",
+        _ => return refused_of_test_orders(found),
+    };
+    refused(words, ONE_OF_THEM)
+}
+
+/// An order without its file or with two, a file without an order, and what says more of a story without one.
+fn refused_of_test_orders(found: &ArgMatches<'_>) -> Option<RefusedOptions> {
+    if let Some(refused) = refused_of_files(found) {
+        return Some(refused);
+    }
+    let files = written_order(found);
+    match has(found, "outcome") {
+        true if files.is_empty() => return refused("--outcome", AN_ORDERS_FILE),
+        false if !files.is_empty() => return refused(files, "--outcome N beside it"),
+        _ => {}
+    }
+    if let Some(refused) = refused_of_themes(found) {
+        return Some(refused);
+    }
+    if has(found, "all") && !has(found, "story") {
+        return refused("--all", "--story FILE beside it");
+    }
+    None
+}
+
 /// Two questions, and `--first` without a condition. Of runs there are but three, and no `--first`.
 fn refused_of_questions(found: &ArgMatches<'_>) -> Option<RefusedOptions> {
     let exists = has(found, "exists");
@@ -179,10 +221,7 @@ fn refused_of_orders(found: &ArgMatches<'_>) -> Option<RefusedOptions> {
         (false, true) => "--stuck",
     };
     if files.is_empty() {
-        return refused(
-            words,
-            "--witness FILE, --script FILE, --story FILE or --story-svg FILE beside it",
-        );
+        return refused(words, AN_ORDERS_FILE);
     }
     None
 }
