@@ -77,7 +77,6 @@ fn push_strings(file: &mut Vec<u8>, begin: u32, length: u32) -> Result<(), Alloc
 
 /// Appends the file of an image, with what its header says of sections: they are four, behind it, and the last has their
 /// names.
-#[tactic(auto, unfolding(crate::specs::File::spoken_for))]
 pub(crate) fn push_image(file: &mut Vec<u8>, image: &[u8]) -> Result<(), AllocError>
     requires header { 52 ≤ length image.now }
     requires few { length image.now ≤ 16777216 }
