@@ -52,7 +52,7 @@ def lines_of(test, counts, left_out, not_ended):
     yield "Witnesses"
     yield f"Positive: {positive}, Negative: {negative}"
     validated = "is validated" if is_so else "is NOT validated"
-    yield f"Condition {quantifier} ({litmus.condition_text(condition)}) {validated}"
+    yield f"Condition {quantifier} ({litmus.condition_text(test, condition)}) {validated}"
     yield f"Observation {name} {how} {held} {other}"
     if left_out:
         yield f"Left out by the filter: {left_out}"

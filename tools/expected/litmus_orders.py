@@ -3,7 +3,7 @@
     python3 tools/expected/litmus_orders.py PROGRAM [FOLDER]
         of each test (examples/litmus) and each of its final states: the order, its script, its story and its picture
 
-The image that `--image` writes has the test's locations as its names, by symbols.py; the order of each line, made by a
+The image that `--image` writes has the test's locations and arrays as its names, by symbols.py; the order of each line, made by a
 model of the plain machine on that image (plain.py), ends in the state that the line says (litmus.py); the story of the
 order is that of story.py with these names, and the line behind it; by the script, `step` retires as many instructions of
 each hart as the order has; the picture has the line in its foot. Prints how many states agree, and ends with status 1
@@ -21,7 +21,8 @@ import image
 import litmus
 import litmus_reading
 import symbols
-from litmus_machine import RAM, RAM_BYTES, address_of
+from litmus_machine import RAM_BYTES, numbers_of
+from litmus_places import RAM
 from plain import Plain
 from story import story
 
@@ -50,9 +51,10 @@ def place_of(test):
     """How a place in memory is told: by the location, or how far behind one it is; else by its address."""
 
     def told(address):
-        index, behind = divmod(address - RAM, 4)
-        if 0 <= index < len(test.locations):
-            return test.locations[index] + (f"+{behind}" if behind else "")
+        for name, one in test.declared.items():
+            behind = address - RAM - one.byte
+            if 0 <= behind < one.bytes:
+                return name + (f"+{behind}" if behind else "")
         return f"{address:08x}"
 
     return told
@@ -61,8 +63,11 @@ def place_of(test):
 def state_of(test, machine):
     """The final state that a machine is in: each hart's cause, and the numbers that the test looks at."""
     see(all(status[0] == "stopped" for status in machine.statuses), "a hart goes on")
+    places = numbers_of(test)
     numbers = [
-        machine.registers[what[0]][what[1]] if isinstance(what, tuple) else machine.read(address_of(test, what), 4)
+        machine.registers[what[0]][what[1]]
+        if isinstance(what, tuple)
+        else machine.read(RAM + places[what].byte, places[what].size)
         for what in test.question.observed
     ]
     return tuple(status[1] for status in machine.statuses), tuple(numbers)
@@ -70,7 +75,9 @@ def state_of(test, machine):
 
 def see_names(test, file):
     found = symbols.names(file) or []
-    wanted = [(name.encode(), address_of(test, name), 4, symbols.OBJECT, True) for name in test.locations]
+    wanted = [
+        (name.encode(), RAM + one.byte, one.bytes, symbols.OBJECT, True) for name, one in test.declared.items()
+    ]
     see(found == wanted, "the names of the image")
 
 
