@@ -66,9 +66,11 @@ verdict_of true = codes "Ok\n\nWitnesses\nPositive: "
 verdict_of false = codes "No\n\nWitnesses\nPositive: "
 
 -- How many speak for what is asked: those of which the condition holds; or, where it may hold of none, the others.
-unfoldable pub witness_text : ℕ → ℕ → List ℕ
-witness_text positive negative =
-    decimal positive ++ (codes ", Negative: " ++ (decimal negative ++ codes "\n"))
+unfoldable pub negative_text : ℕ → List ℕ
+negative_text negative = codes ", Negative: " ++ (decimal negative ++ codes "\n")
+
+abbrev pub witness_text : ℕ → ℕ → List ℕ
+witness_text positive negative = decimal positive ++ negative_text negative
 
 abbrev pub witness_line : Quantifier → ℕ → ℕ → List ℕ
 witness_line Exists held other = witness_text held other

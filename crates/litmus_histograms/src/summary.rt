@@ -9,6 +9,7 @@ ghost use Rattle.litmus_histograms.specs.Text.{
   head_text,
   is_as_asked,
   kind_of_test,
+  negative_text,
   often,
   observation_text,
   rest_text,
@@ -125,15 +126,23 @@ fn write_witnesses<W: Write>(
     }
 }
 
-#[tactic(auto, unfolding(crate::specs::Text::witness_text))]
 fn write_pair<W: Write>(positive: u64, negative: u64, out: &mut W) -> io::Result<()>
     ensures { OnOk result (Appends (W.contents out.old) (W.contents out.new)
         (witness_text positive negative)) }
 {
     write_count(positive, out)?;
-    out.write_all(b", Negative: ")?;
-    write_count(negative, out)?;
-    out.write_all(b"\n")
+    write_negative(negative, out)
+}
+
+#[tactic(auto, unfolding(crate::specs::Text::negative_text))]
+fn write_negative<W: Write>(negative: u64, out: &mut W) -> io::Result<()>
+    ensures { OnOk result (Appends (W.contents out.old) (W.contents out.new) (negative_text negative)) }
+{
+    let mut part = ArrayString::<64>::new();
+    part.push_str(", Negative: ");
+    push_decimal(&mut part, negative);
+    part.push_str("\n");
+    out.write_all(part.as_bytes())
 }
 
 #[tactic(auto, unfolding(crate::specs::Text::condition_line))]
