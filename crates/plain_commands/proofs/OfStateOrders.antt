@@ -46,11 +46,13 @@ module _ (test : LitmusTest) (listed : List Told) (state i n left : ℕ) (b : Bo
   here = (member listed i within).0
 
   stands : slice_get listed i ≡ Some here
+  unfolding here
   stands = (member listed i within).1
 
   first : drop i listed ≡ here ∷ drop (i + 1) listed
+  unfolding here
   first =
-      rw (add-one, drop-cons listed i here)
+      rw (add-one, drop-cons listed i here, within)
       (ap (λ (told : Told). told ∷ drop (suc i) listed) ((member listed i within).2 here))
 
   told_from : (answer : Bool) → b ≡ answer → passes test here ≡ answer
@@ -58,14 +60,16 @@ module _ (test : LitmusTest) (listed : List Told) (state i n left : ℕ) (b : Bo
 
   pub found_here : b ≡ true → left ≡ 0
       → (i < length listed) × (slice_get listed i ≡ slice_get (told_in test listed) state)
-  found_here yes none =
-      let passed = told_from true yes in
-      let last : slice_get (told_in test (drop i listed)) left ≡ Some here = rw (none, first, passed) refl in
+  found_here found none =
+      let passed = told_from true found in
+      let next : slice_get (told_in test (drop i listed)) 0 ≡ Some here = rw (first, passed) refl in
+      let last : slice_get (told_in test (drop i listed)) left ≡ Some here =
+      ap (λ k. slice_get (told_in test (drop i listed)) k) none ∙ next in
       (within, stands ∙ sym (is.same ∙ last))
 
   pub one_less : b ≡ true → (k : ℕ) → left ≡ suc k → IsLeft test listed state (i + 1) k
-  one_less yes k more =
-      let passed = told_from true yes in
+  one_less found k more =
+      let passed = told_from true found in
       let rest : slice_get (told_in test (drop i listed)) left ≡ slice_get (told_in test (drop (i + 1) listed)) k =
       rw (more, first, passed) refl in
       let longer : length (told_in test (drop i listed)) ≡ suc (length (told_in test (drop (i + 1) listed))) =
@@ -74,8 +78,8 @@ module _ (test : LitmusTest) (listed : List Told) (state i n left : ℕ) (b : Bo
       record { same = is.same ∙ rest; many = omega (arith, many, longer, more) }
 
   pub as_many : b ≡ false → IsLeft test listed state (i + 1) left
-  as_many no =
-      let fails = told_from false no in
+  as_many missed =
+      let fails = told_from false missed in
       let rest : told_in test (drop i listed) ≡ told_in test (drop (i + 1) listed) = rw (first, fails) refl in
       record {
         same = is.same ∙ ap (λ xs. slice_get xs left) rest;

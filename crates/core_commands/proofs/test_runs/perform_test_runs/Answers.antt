@@ -12,16 +12,16 @@ run_test-requires-clause-harts g c = ap (λ (s : Settings). s.config.harts) c.se
 pub returns-in-Err-clause-refused : goal.returns-in-Err-clause-refused
 returns-in-Err-clause-refused g c = inl c.in-Err.ensures.refused
 
-pub returns-in-Err-run_test-clause-refused : goal.returns-in-Err-run_test-clause-refused
-returns-in-Err-run_test-clause-refused g c = inr (
+pub returns-clause-refused : goal.returns-clause-refused
+returns-clause-refused g c = inr (
   c.in-Ok.test,
   c.in-Ok.ensures.sound,
   subst (λ (s : Settings). IsRunsRefusal s c.in-Err-run_test.refused) c.settings_for-settings.ensures
       c.in-Err-run_test.ensures.refused,
 )
 
-pub returns-in-Err-run_test-clause-unwanted : goal.returns-in-Err-run_test-clause-unwanted
-returns-in-Err-run_test-clause-unwanted g c none =
+pub returns-clause-unwanted : goal.returns-clause-unwanted
+returns-clause-unwanted g c none =
     c.in-Err-run_test.ensures.unwanted (unwritten c.args.command.now none).0
 
 pub returns-in-Ok-run_test-clause-ended : goal.returns-in-Ok-run_test-clause-ended
@@ -30,7 +30,7 @@ returns-in-Ok-run_test-clause-ended g c = record {
   well_formed = c.in-Ok.ensures.sound;
   comes = subst (λ (s : Settings). RunsComeTo c.in-Ok.test s c.args.command.now c.args.times
       (HasPut g.S.Sink.written g.S.Sink.has_failed c.args.context.now.files c.run_test.new.context.files)
-      (g.W.Write.contents c.args.context.now.out) (g.W.Write.contents c.run_test.new.context.out) _)
+      (g.W.Write.contents c.args.context.now.out) (g.W.Write.contents c.run_test.new.context.out) c.in-Ok-run_test.status)
       c.settings_for-settings.ensures c.in-Ok-run_test.ensures.ended;
 }
 

@@ -11,8 +11,8 @@ loop-index-preserved-then-not-is_state c =
     c.is_state.result c.loop-index-test.true c.count-index-end.ensures c.is_state.ensures c.loop-index.invariant
     (search rules)
 
-pub returns-then-left-eq0 : goal.returns-then-left-eq0
-returns-then-left-eq0 c =
+pub returns-then-left-eq0-clause-found : goal.returns-then-left-eq0-clause-found
+returns-then-left-eq0-clause-found c =
     found_here c.args.test.now c.args.outcomes.now.listed c.args.state c.loop-index.index _ c.loop-index.left
     c.is_state.result c.loop-index-test.true c.count-index-end.ensures c.is_state.ensures c.loop-index.invariant
     (search rules) c.if-left-eq0.true
@@ -23,8 +23,8 @@ loop-index-preserved c =
     c.is_state.result c.loop-index-test.true c.count-index-end.ensures c.is_state.ensures c.loop-index.invariant
     (search rules) (c.loop-index.left - 1) (omega (arith, c.if-left-eq0.false))
 
-pub returns : goal.returns
-returns c =
+pub returns-clause-none : goal.returns-clause-none
+returns-clause-none c =
     let over : length c.args.outcomes.now.listed ≤ c.loop-index.index =
     omega (arith, c.loop-index-test.false, c.count-index-end.ensures) in
     lacks c.args.test.now c.args.outcomes.now.listed c.args.state c.loop-index.index c.loop-index.left over
