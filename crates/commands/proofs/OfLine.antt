@@ -193,14 +193,14 @@ runs_say : (b : Bool) (status : ℕ) → status ≡ (if b then 3 else 0) → IsT
 runs_say true status is = ap says_harts is
 runs_say false status is = zero_says status is
 
-tested_says : (run : Option ℕ) (settings : Settings) (litmus : LitmusCommand) (Put : List ℕ → Type 0)
-    (old new : Option (List ℕ)) (status : ℕ) → TestedComesTo run settings litmus Put old new status
+tested_says : (run : Option ℕ) (text : List ℕ) (settings : Settings) (litmus : LitmusCommand) (Put : List ℕ → Type 0)
+    (old new : Option (List ℕ)) (status : ℕ) → TestedComesTo run text settings litmus Put old new status
     → IsTrue (says_harts status)
-tested_says None settings litmus Put old new status is = elim is.comes [
+tested_says None text settings litmus Put old new status is = elim is.comes [
   | inl all ↦ zero_says status all.zero
   | inr more ↦ ap says_harts more.three
 ]
-tested_says (Some times) settings litmus Put old new status is = elim is.comes [
+tested_says (Some times) text settings litmus Put old new status is = elim is.comes [
   | inl all ↦ runs_say _ status all.counted.stands
   | inr more ↦ ap says_harts more.three
 ]
@@ -208,7 +208,7 @@ tested_says (Some times) settings litmus Put old new status is = elim is.comes [
 litmus_says : (litmus : LitmusCommand) (config test : Read) (Put : List ℕ → Type 0) (old new : Option (List ℕ))
     (status : ℕ) → LitmusLineComesTo litmus config test Put old new status → IsTrue (says_harts status)
 litmus_says litmus (Ok text) (Ok file) Put old new status is =
-    tested_says litmus.run is.0 litmus Put old new status is.2
+    tested_says litmus.run file is.0 litmus Put old new status is.2
 litmus_says litmus (Ok text) (Err why) Put old new status is = absurd is.2
 litmus_says litmus (Err why) test Put old new status is = absurd is
 

@@ -23,7 +23,7 @@ neither is = elim is.1 [
 no_file : (run : Option ℕ) (text : List ℕ) (settings : Settings) (litmus : LitmusCommand)
     → IsTestedRefusal run text settings litmus reason.File → ⊥
 no_file None text settings litmus (inl is) = is
-no_file None text settings litmus (inr is) = elim is.2 [
+no_file None text settings litmus (inr is) = elim is.3 [
   | inl states ↦ states
   | inr order ↦ elim order.holds [
     | inl lacks ↦ lacks
@@ -31,21 +31,24 @@ no_file None text settings litmus (inr is) = elim is.2 [
   ]
 ]
 no_file (Some times) text settings litmus (inl is) = is
-no_file (Some times) text settings litmus (inr is) = is.2
+no_file (Some times) text settings litmus (inr is) = is.3
 
 -- What is put out may fail behind a test that makes sense.
 output_of : (run : Option ℕ) (text : List ℕ) (settings : Settings) (litmus : LitmusCommand) (Put : List ℕ → Type 0)
-    (old new : Option (List ℕ)) (status : ℕ) → TestedComesTo run settings litmus Put old new status
+    (old new : Option (List ℕ)) (status : ℕ) → TestedComesTo run text settings litmus Put old new status
     → IsTestedRefusal run text settings litmus reason.Output
-output_of None text settings litmus Put old new status is = inr (is.test, is.well_formed, inl tt)
-output_of (Some times) text settings litmus Put old new status is = inr (is.test, is.well_formed, tt)
+output_of None text settings litmus Put old new status is =
+    inr (is.test, is.is_text, is.well_formed, inl tt)
+output_of (Some times) text settings litmus Put old new status is =
+    inr (is.test, is.is_text, is.well_formed, tt)
 
 -- A flush changes nothing of what it comes to.
-flushed_states : (settings : Settings) (litmus : LitmusCommand) (Put : List ℕ → Type 0) (old mid new : Option (List ℕ))
-    (status : ℕ) → LitmusComesTo settings litmus Put old mid status → Keeps mid new
-    → LitmusComesTo settings litmus Put old new status
-flushed_states settings litmus Put old mid new status is flushed = record {
+flushed_states : (text : List ℕ) (settings : Settings) (litmus : LitmusCommand) (Put : List ℕ → Type 0)
+    (old mid new : Option (List ℕ)) (status : ℕ) → LitmusComesTo text settings litmus Put old mid status → Keeps mid new
+    → LitmusComesTo text settings litmus Put old new status
+flushed_states text settings litmus Put old mid new status is flushed = record {
   test = is.test;
+  is_text = is.is_text;
   well_formed = is.well_formed;
   comes = elim is.comes [
     | inl all ↦ inl (record {
@@ -77,11 +80,12 @@ flushed_states settings litmus Put old mid new status is flushed = record {
   ];
 }
 
-flushed_runs : (settings : Settings) (litmus : LitmusCommand) (times : ℕ) (Put : List ℕ → Type 0)
-    (old mid new : Option (List ℕ)) (status : ℕ) → TestRunsComeTo settings litmus times Put old mid status → Keeps mid new
-    → TestRunsComeTo settings litmus times Put old new status
-flushed_runs settings litmus times Put old mid new status is flushed = record {
+flushed_runs : (text : List ℕ) (settings : Settings) (litmus : LitmusCommand) (times : ℕ) (Put : List ℕ → Type 0)
+    (old mid new : Option (List ℕ)) (status : ℕ) → TestRunsComeTo text settings litmus times Put old mid status
+    → Keeps mid new → TestRunsComeTo text settings litmus times Put old new status
+flushed_runs text settings litmus times Put old mid new status is flushed = record {
   test = is.test;
+  is_text = is.is_text;
   well_formed = is.well_formed;
   comes = elim is.comes [
     | inl all ↦ inl (record {
@@ -116,13 +120,13 @@ flushed_runs settings litmus times Put old mid new status is flushed = record {
   ];
 }
 
-flushed_so : (run : Option ℕ) (settings : Settings) (litmus : LitmusCommand) (Put : List ℕ → Type 0)
-    (old mid new : Option (List ℕ)) (status : ℕ) → TestedComesTo run settings litmus Put old mid status → Keeps mid new
-    → TestedComesTo run settings litmus Put old new status
-flushed_so None settings litmus Put old mid new status is flushed =
-    flushed_states settings litmus Put old mid new status is flushed
-flushed_so (Some times) settings litmus Put old mid new status is flushed =
-    flushed_runs settings litmus times Put old mid new status is flushed
+flushed_so : (run : Option ℕ) (text : List ℕ) (settings : Settings) (litmus : LitmusCommand) (Put : List ℕ → Type 0)
+    (old mid new : Option (List ℕ)) (status : ℕ) → TestedComesTo run text settings litmus Put old mid status
+    → Keeps mid new → TestedComesTo run text settings litmus Put old new status
+flushed_so None text settings litmus Put old mid new status is flushed =
+    flushed_states text settings litmus Put old mid new status is flushed
+flushed_so (Some times) text settings litmus Put old mid new status is flushed =
+    flushed_runs text settings litmus times Put old mid new status is flushed
 
 module _ (litmus : LitmusCommand) (text file : List ℕ) (settings : Settings)
     (configured : IsConfiguration text settings) where
@@ -164,14 +168,14 @@ module _ (litmus : LitmusCommand) (text file : List ℕ) (settings : Settings)
   test_refusal reason.Output is = (settings, configured, is)
 
   module _ (Put : List ℕ → Type 0) (old mid : Option (List ℕ)) (status : ℕ)
-      (is : TestedComesTo litmus.run settings litmus Put old mid status) where
+      (is : TestedComesTo litmus.run file settings litmus Put old mid status) where
     pub test_output : IsLitmusLineRefusal litmus (Ok text) (Ok file) reason.Output
     test_output = (settings, configured, output_of litmus.run file settings litmus Put old mid status is)
 
     pub test_flushed : (new : Option (List ℕ)) → Keeps mid new
         → LitmusLineComesTo litmus (Ok text) (Ok file) Put old new status
     test_flushed new flushed =
-        (settings, configured, flushed_so litmus.run settings litmus Put old mid new status is flushed)
+        (settings, configured, flushed_so litmus.run file settings litmus Put old mid new status is flushed)
 
 -- By whether runs are asked for.
 pub run_refused : (run : Option ℕ) (times : ℕ) → run ≡ Some times → (text : List ℕ) (settings : Settings)
@@ -180,9 +184,9 @@ pub run_refused : (run : Option ℕ) (times : ℕ) → run ≡ Some times → (t
 run_refused run times is text settings litmus answer refused =
     subst (λ (r : Option ℕ). IfErr answer (IsTestedRefusal r text settings litmus)) (sym is) refused
 
-pub run_ended : (run : Option ℕ) (times : ℕ) → run ≡ Some times → (settings : Settings) (litmus : LitmusCommand)
-    (Put : List ℕ → Type 0) (old new : Option (List ℕ)) (answer : Result ℕ Refused)
-    → IfOk answer (TestRunsComeTo settings litmus times Put old new)
-    → IfOk answer (TestedComesTo run settings litmus Put old new)
-run_ended run times is settings litmus Put old new answer ended =
-    subst (λ (r : Option ℕ). IfOk answer (TestedComesTo r settings litmus Put old new)) (sym is) ended
+pub run_ended : (run : Option ℕ) (times : ℕ) → run ≡ Some times → (text : List ℕ) (settings : Settings)
+    (litmus : LitmusCommand) (Put : List ℕ → Type 0) (old new : Option (List ℕ)) (answer : Result ℕ Refused)
+    → IfOk answer (TestRunsComeTo text settings litmus times Put old new)
+    → IfOk answer (TestedComesTo run text settings litmus Put old new)
+run_ended run times is text settings litmus Put old new answer ended =
+    subst (λ (r : Option ℕ). IfOk answer (TestedComesTo r text settings litmus Put old new)) (sym is) ended

@@ -115,7 +115,8 @@ IsLitmusLineRefusal litmus config test reason =
 abbrev pub LitmusLineComesTo : LitmusCommand → Read → Read → (List ℕ → Type 0) → Option (List ℕ) → Option (List ℕ) → ℕ
     → Type 0
 LitmusLineComesTo litmus config test Put old new status =
-    OfSettings config (λ settings. OfFile test (λ text. TestedComesTo litmus.run settings litmus Put old new status))
+    OfSettings config (λ settings. OfFile test (λ text.
+    TestedComesTo litmus.run text settings litmus Put old new status))
 
 -- When each refusal comes of a migration: the configuration is looked at first, then the trace. A file that
 -- can't be read is refused where it is looked at.

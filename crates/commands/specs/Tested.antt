@@ -10,7 +10,8 @@ abbrev pub IsTestedRefusal : Option ℕ → List ℕ → Settings → LitmusComm
 IsTestedRefusal None text settings litmus reason = IsLitmusRefusal text settings litmus reason
 IsTestedRefusal (Some times) text settings litmus reason = IsTestRunsRefusal text settings reason
 
-abbrev pub TestedComesTo : Option ℕ → Settings → LitmusCommand → (List ℕ → Type 0) → Option (List ℕ)
+abbrev pub TestedComesTo : Option ℕ → List ℕ → Settings → LitmusCommand → (List ℕ → Type 0) → Option (List ℕ)
     → Option (List ℕ) → ℕ → Type 0
-TestedComesTo None settings litmus Put old new status = LitmusComesTo settings litmus Put old new status
-TestedComesTo (Some times) settings litmus Put old new status = TestRunsComeTo settings litmus times Put old new status
+TestedComesTo None text settings litmus Put old new status = LitmusComesTo text settings litmus Put old new status
+TestedComesTo (Some times) text settings litmus Put old new status =
+    TestRunsComeTo text settings litmus times Put old new status

@@ -33,7 +33,7 @@ pub(crate) fn test_or_run<
     requires works { S.has_failed context.old.files ≡ false }
     requires finished { S.is_finished context.old.files ≡ true }
     ensures refused { IfErr result (IsTestedRefusal litmus.now.run text.now settings litmus.now) }
-    ensures ended { IfOk result (TestedComesTo litmus.now.run settings litmus.now
+    ensures ended { IfOk result (TestedComesTo litmus.now.run text.now settings litmus.now
         (HasPut S.written S.has_failed context.old.files context.new.files)
         (W.contents context.old.out) (W.contents context.new.out)) }
     ensures unwanted { is_some (written_for_test litmus.now) ≡ false → context.new.files ≡ context.old.files }

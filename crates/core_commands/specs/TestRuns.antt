@@ -8,6 +8,7 @@ use Rattle.outcomes.specs.{Found.Found, Found.Told, Found.InEachSetup, Found.IsE
 use Rattle.watched_outcomes.specs.{declared.watch.Watch.Watch, Endings.Ending}
 use Rattle.stress_runs.specs.Ends.{end_of}
 use Rattle.litmus_tests.specs.{declared.test.LitmusTest.LitmusTest, WellFormed.IsWellFormed}
+use Rattle.litmus_reading.specs.Texts.{IsTextOf}
 use Rattle.litmus_histograms.specs.{Kinds.is_kind, Counting.in_runs, Text.histogram_text, Sums.AddsUp}
 use Rattle.litmus_histograms.specs.declared.kinds.RunKind.TheVariants.{NotEnded}
 use Rattle.sim_inputs.specs.{declared.settings.Settings.Settings, declared.line.LitmusCommand.LitmusCommand}
@@ -49,23 +50,24 @@ pub record PrintsHistogram (test : LitmusTest) (settings : Settings) (command : 
   pub counted : HasCounted test settings image watch found.listed (runs_of times) old new exit_status
   pub adds_up : AddsUp test (map (end_of watch) counted.cores) found.listed
 
--- What the command comes to with a test; and with the test that was read, with the settings for it.
+-- What the command comes to with a test; and with the test that the text is, with the settings for it.
 abbrev pub RunsComeTo : LitmusTest → Settings → LitmusCommand → ℕ → (List ℕ → Type 0) → Option (List ℕ)
     → Option (List ℕ) → ℕ → Type 0
 RunsComeTo test settings command times Put old new status =
     PrintsHistogram test settings command times Put old new status ⊎ PrintsIncompleteTest test command Put old new status
 
-pub record TestRunsComeTo (settings : Settings) (command : LitmusCommand) (times : ℕ) (Put : List ℕ → Type 0)
-    (old new : Option (List ℕ)) (exit_status : ℕ) : Type 0 where
+pub record TestRunsComeTo (text : List ℕ) (settings : Settings) (command : LitmusCommand) (times : ℕ)
+    (Put : List ℕ → Type 0) (old new : Option (List ℕ)) (exit_status : ℕ) : Type 0 where
   pub test : LitmusTest
+  pub is_text : IsTextOf text test
   pub well_formed : IsWellFormed test
   pub comes : RunsComeTo test (settings_for test settings) command times Put old new exit_status
 
--- When each refusal comes: the text is looked at first, then it is as for one run.
+-- When each refusal comes: the text is looked at first, then it is as for one run of the test that it is.
 abbrev pub IsRunsRefusal : Settings → Refused → Type 0
 IsRunsRefusal settings reasons.Output = Unit {0}
 IsRunsRefusal settings reason = IsRunRefusal settings reason
 
 abbrev pub IsTestRunsRefusal : List ℕ → Settings → Refused → Type 0
 IsTestRunsRefusal text settings why = IsTextRefusal text why
-    ⊎ ((test : LitmusTest) × IsWellFormed test × IsRunsRefusal (settings_for test settings) why)
+    ⊎ ((test : LitmusTest) × IsTextOf text test × IsWellFormed test × IsRunsRefusal (settings_for test settings) why)

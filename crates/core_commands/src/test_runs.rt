@@ -50,7 +50,7 @@ pub fn perform_test_runs<
     requires works { S.has_failed context.old.files ≡ false }
     requires finished { S.is_finished context.old.files ≡ true }
     ensures refused { IfErr result (IsTestRunsRefusal text.now settings) }
-    ensures ended { IfOk result (TestRunsComeTo settings command.now times
+    ensures ended { IfOk result (TestRunsComeTo text.now settings command.now times
         (HasPut S.written S.has_failed context.old.files context.new.files)
         (W.contents context.old.out) (W.contents context.new.out)) }
     ensures unwanted { is_some (written_for_test command.now) ≡ false → context.new.files ≡ context.old.files }

@@ -1,2 +1,13 @@
+pub mod Cells
+pub mod Columns
 pub mod Conditions
+pub mod Declaring
+pub mod Entries
+pub mod Giving
+pub mod Listing
+pub mod Looking
+pub mod Naming
+pub mod Remembered
+pub mod Together
 pub mod Told
+pub mod Wholes

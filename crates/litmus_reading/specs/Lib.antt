@@ -1,3 +1,13 @@
+pub mod Declarations
 pub mod Fences
 pub mod Grammar
+pub mod Heads
 pub mod Instructions
+pub mod Looked
+pub mod Memory
+pub mod Names
+pub mod Questions
+pub mod Rows
+pub mod Starts
+pub mod Texts
+pub mod Threads

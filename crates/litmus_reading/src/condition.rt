@@ -30,15 +30,14 @@ pub(crate) struct Asked {
     pub alloc: Global,
 }
 
-/// What has been read of a condition that stands alone: how many terms and `true`, and what the terms look at.
+/// What has been read of a condition: how many terms and `true`.
 #[derive(Drop)]
 pub(crate) struct Leaves {
     pub count: usize,
-    pub observed: Vec<Observed>,
 }
 
-/// Reads conditions with `<=>` between, whose leaves go behind `leaves`; `room` says how many levels may be nested in
-/// it.
+/// Reads conditions with `<=>` between, whose leaves are counted in `leaves`; `room` says how many levels may be nested
+/// in it.
 #[cycle(condition)]
 pub(crate) fn read_condition<'a>(
     asked: &Asked,
@@ -177,7 +176,6 @@ fn read_term<'a>(
         check_width(behind, width, asked.end)?;
         let (other, rest) = value(behind, asked.end)?;
         count_leaf(asked, words, leaves)?;
-        leaves.observed.push(observed)?;
         let term = Term {
             observed,
             value: other,
@@ -190,7 +188,6 @@ fn read_term<'a>(
     check_width(rest, width, asked.end)?;
     let (value, rest) = value(rest, asked.end)?;
     count_leaf(asked, words, leaves)?;
-    leaves.observed.push(observed)?;
     let term = Term {
         observed,
         value,

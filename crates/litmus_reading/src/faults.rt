@@ -10,7 +10,7 @@ use crate::observed::observed_of;
 use crate::operands::is_label;
 use crate::question::read_question;
 use crate::rows::{asks, cell_of, columns_of, read_harts};
-use crate::start::{Start, no_start, read_whole_entry};
+use crate::start::{Entry, read_whole_entry};
 use crate::test::{braces, shown_at};
 use crate::thread::{Column, no_column, read_cell, step_of};
 use litmus_words::{
@@ -158,12 +158,12 @@ impl Faults {
             Ok(parts) => parts,
             Err(stop) => return self.put(stop, false),
         };
-        let start = self.see_entries(inside, end, alloc)?;
+        let entries = self.see_entries(inside, end, alloc)?;
         let (harts, behind) = match read_harts(behind, end) {
             Ok(harts) => harts,
             Err(stop) => return self.put(stop, false),
         };
-        self.see_harts(&start, harts)?;
+        self.see_harts(entries.as_slice(), harts)?;
         let Some((rows, rest)) = self.see_rows(behind, harts, end)? else {
             return Ok(());
         };
@@ -181,24 +181,26 @@ impl Faults {
         inside: &[Word],
         end: usize,
         alloc: Global,
-    ) -> Result<Start, AllocError> {
-        let mut start = no_start(alloc);
+    ) -> Result<Vec<Entry>, AllocError> {
+        let mut entries = Vec::new(alloc);
         let mut rest = inside;
         while !rest.is_empty() {
-            match read_whole_entry(&mut start, rest, end) {
+            match read_whole_entry(&mut entries, rest, end) {
                 Ok(()) => {}
                 Err(stop) => self.put(stop, false)?,
             }
             rest = cut(rest, Mark::Semicolon).1;
         }
-        Ok(start)
+        Ok(entries)
     }
 
     /// Sees whether the harts of the entries are there.
-    fn see_harts(&mut self, start: &Start, harts: u8) -> Result<(), AllocError> {
-        for one in start.registers.as_slice() {
-            if one.hart >= u32::from(harts) {
-                self.put(Stop::at(one.at, Fault::NoHart), false)?;
+    fn see_harts(&mut self, entries: &[Entry], harts: u8) -> Result<(), AllocError> {
+        for entry in entries {
+            if let Entry::Register(start) = entry {
+                if start.hart >= u32::from(harts) {
+                    self.put(Stop::at(start.at, Fault::NoHart), false)?;
+                }
             }
         }
         Ok(())
@@ -293,7 +295,7 @@ impl Faults {
     /// Sees whether the labels are there to which a hart's branches go.
     fn see_branches(&mut self, text: &[u8], column: &Column) -> Result<(), AllocError> {
         for written in column.steps.as_slice() {
-            match step_of(text, column, *written) {
+            match step_of(text, column.labels.as_slice(), *written) {
                 Ok(_) => {}
                 Err(stop) => self.put(stop, false)?,
             }

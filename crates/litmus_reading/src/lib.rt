@@ -9,19 +9,22 @@
 //! `~exists` or `forall` with a condition of terms (with `=` or `!=`), `true`, `~`, `not`, `/\`, `\/`, `=>`, `<=>` and
 //! parentheses. Comments `(* .. *)` may be nested.
 //!
-//! Proved: a test that is read is well formed; what is refused is refused at a place of the text. Of the parts: an
-//! instruction is the one that its words spell (`specs/Instructions`, `specs/Fences`), what its row is with the
-//! operands by `rv_text`, and a condition the one that its words are by the grammar (`specs/Grammar`). Only tested:
-//! what stands before the braces, that the entries of the start, the cells of a column and the labels go where they
-//! belong, what the start declares, and where that stands, what is observed, and which fault is told where.
+//! Proved: a test that is read is well formed, and is the one that its text says (`specs/Texts`): its name (`Heads`), the
+//! locations and arrays that the braces declare and where they stand (`Declarations`, `Names`), what they and the
+//! registers hold at the start (`Starts`, `Memory`), the instructions of each hart, with its labels (`Rows`, `Threads`,
+//! `Instructions`, `Fences`), the filter and the question (`Questions`, `Grammar`), and what is looked at (`Looked`). What
+//! is refused is refused at a place of the text. Only tested: that nothing is refused that is a test, which fault is told
+//! where, and that numbers and addresses fit the types for which they are given.
 //!
 //! Read in this order, behind `litmus_words`: `head` (what stands before the braces), `declarations` (of which types
-//! locations are), `locations` (which there are, and where), `fitting` (what fits in a type), `start`, `rows` (of the
-//! table of harts), `operands`, `fences`, `instruction`, `thread` (what a hart does), `condition`, `question`,
-//! `observed`; `sound` (whether a test makes sense); `test`; `faults` (what else is wrong with a text).
+//! locations are), `locations` (which there are, and where), `fitting` (what fits in a type), `contents` (what an entry
+//! gives), `start`, `memory` (what the words of the locations hold), `rows` (of the table of harts), `operands`, `fences`,
+//! `instruction`, `thread` (what a hart does), `condition`, `question`, `observed`; `sound` (whether a test makes sense);
+//! `test`; `faults` (what else is wrong with a text).
 #![tactic(auto)]
 
 mod condition;
+mod contents;
 mod declarations;
 mod faults;
 mod fences;
@@ -29,6 +32,7 @@ mod fitting;
 mod head;
 mod instruction;
 mod locations;
+mod memory;
 mod observed;
 mod operands;
 mod question;

@@ -1,9 +1,21 @@
 //! What tells final states apart: what is listed, and what the terms of the filter and of the condition look at, in
 //! order.
 
+ghost use Rattle.std.specs.Prelude.{◌≡◌, ◌++◌, ◌∷◌, [], IfOk, OnOk};
+ghost use Rattle.litmus_reading.specs.Looked.{
+  is_listed,
+  is_named,
+  is_same,
+  looked_at,
+  looks_at,
+  registers_from,
+  those_named,
+};
+ghost use Rattle.litmus_reading.specs.Questions.{elements_from};
+
 use crate::question::Question;
-use litmus_tests::Observed;
 use litmus_tests::test::MOST_OBSERVED;
+use litmus_tests::{Condition, Observed};
 use litmus_words::{Fault, Stop};
 use std::alloc::Global;
 
@@ -15,18 +27,53 @@ pub(crate) fn observed_of(
     locations: usize,
     at: usize,
     alloc: Global,
-) -> Result<Vec<Observed>, Stop> {
+) -> Result<Vec<Observed>, Stop>
+    ensures { IfOk result (λ observed. observed.items ≡ looked_at question.now.condition
+        question.now.filter question.now.listed.observed.items harts locations) }
+{
     let mut observed = Vec::new(alloc);
     for hart in 0..harts {
-        for register in 1..32 {
-            let one = Observed::Register { hart, register };
-            add_named(question, one, &mut observed, at)?;
-        }
+        add_registers(question, hart, &mut observed, at)?;
     }
-    for index in 0..locations {
-        add_named(question, Observed::Location(index), &mut observed, at)?;
-    }
+    add_locations(question, locations, &mut observed, at)?;
     Ok(observed)
+}
+
+/// Adds the registers of a hart that the question names.
+fn add_registers(
+    question: &Question,
+    hart: u8,
+    observed: &mut Vec<Observed>,
+    at: usize,
+) -> Result<(), Stop>
+    ensures { OnOk result (observed.new.items ≡ observed.old.items ++ those_named question.now.condition
+        question.now.filter question.now.listed.observed.items (registers_from 31 hart 1)) }
+{
+    for register in 1..32 {
+        add_named(
+            question,
+            Observed::Register { hart, register },
+            observed,
+            at,
+        )?;
+    }
+    Ok(())
+}
+
+/// Adds the locations that the question names.
+fn add_locations(
+    question: &Question,
+    locations: usize,
+    observed: &mut Vec<Observed>,
+    at: usize,
+) -> Result<(), Stop>
+    ensures { OnOk result (observed.new.items ≡ observed.old.items ++ those_named question.now.condition
+        question.now.filter question.now.listed.observed.items (elements_from locations 0)) }
+{
+    for index in 0..locations {
+        add_named(question, Observed::Location(index), observed, at)?;
+    }
+    Ok(())
 }
 
 /// Adds a thing that the question names.
@@ -35,7 +82,10 @@ fn add_named(
     one: Observed,
     observed: &mut Vec<Observed>,
     at: usize,
-) -> Result<(), Stop> {
+) -> Result<(), Stop>
+    ensures { OnOk result (observed.new.items ≡ observed.old.items ++ those_named question.now.condition
+        question.now.filter question.now.listed.observed.items (one ∷ [])) }
+{
     if !is_named(question, one) {
         return Ok(());
     }
@@ -46,8 +96,73 @@ fn add_named(
     Ok(())
 }
 
-fn is_named(question: &Question, one: Observed) -> bool {
-    question.terms.as_slice().contains(&one)
-        || question.filtered.as_slice().contains(&one)
-        || question.listed.as_slice().contains(&one)
+fn is_named(question: &Question, one: Observed) -> bool
+    ensures { result ≡ is_named question.now.condition question.now.filter question.now.listed.observed.items one }
+{
+    if looks_at(&question.condition, one) {
+        return true;
+    }
+    if looks_at(&question.filter, one) {
+        return true;
+    }
+    is_listed(question.listed.observed.as_slice(), one)
+}
+
+fn is_listed(listed: &[Observed], one: Observed) -> bool
+    ensures { result ≡ is_listed listed.now one }
+{
+    listed.iter().any(|other| is_same(*other, one))
+}
+
+/// Whether a condition looks at it.
+fn looks_at(condition: &Condition, one: Observed) -> bool
+    ensures { result ≡ looks_at condition.now one }
+{
+    match condition {
+        Condition::Always => false,
+        Condition::Holds(term) => is_same(term.observed, one),
+        Condition::Not(inner) => looks_at(inner, one),
+        Condition::Both(left, right) => {
+            if looks_at(left, one) {
+                return true;
+            }
+            looks_at(right, one)
+        }
+        Condition::Either(left, right) => {
+            if looks_at(left, one) {
+                return true;
+            }
+            looks_at(right, one)
+        }
+        Condition::Implies(left, right) => {
+            if looks_at(left, one) {
+                return true;
+            }
+            looks_at(right, one)
+        }
+        Condition::Equivalent(left, right) => {
+            if looks_at(left, one) {
+                return true;
+            }
+            looks_at(right, one)
+        }
+    }
+}
+
+fn is_same(one: Observed, other: Observed) -> bool
+    ensures { result ≡ is_same one other }
+{
+    match one {
+        Observed::Register { hart, register } => match other {
+            Observed::Register {
+                hart: other,
+                register: number,
+            } => hart == other && register == number,
+            Observed::Location(_) => false,
+        },
+        Observed::Location(index) => match other {
+            Observed::Register { .. } => false,
+            Observed::Location(other) => index == other,
+        },
+    }
 }

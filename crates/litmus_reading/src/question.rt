@@ -1,157 +1,218 @@
 //! What stands behind the rows: what is looked at, a filter, and the condition.
 
-ghost use Rattle.std.specs.Prelude.{◌≤◌, length, IfOk, IfSome};
+ghost use Rattle.std.specs.Prelude.{◌≡◌, ◌++◌, ◌∷◌, [], IfOk, IfSome, OnOk};
+ghost use Rattle.litmus_words.specs.Tokens.{Takes};
+ghost use Rattle.litmus_reading.specs.Grammar.{ConditionTaken};
+ghost use Rattle.litmus_reading.specs.Names.{elements_of};
+ghost use Rattle.litmus_reading.specs.Questions.{
+  elements_from,
+  quantifier_tokens,
+  FilterTaken,
+  IsAsked,
+  IsAskedAfter,
+  IsBefore,
+  ItemTaken,
+  ListedTaken,
+  ListTaken,
+  MayFilter,
+  MayList,
+  SpellsQuestion,
+  WholeTaken,
+};
 
 use crate::condition::{Asked, Leaves, read_condition, read_observed};
-use crate::locations::elements_of;
+use crate::locations::{elements_of, index_of};
 use litmus_tests::test::MOST_NESTED;
 use litmus_tests::{Condition, Observed, Quantifier};
 use litmus_words::{Declared, Fault, Mark, Stop, Token, Word, begins_with, mark, next, nothing};
 
-/// What is asked, and what it names: what stands in `locations`, and what the terms look at.
+/// What is asked, the filter, and what stands in `locations`.
 #[derive(Drop)]
 pub(crate) struct Question {
     pub quantifier: Quantifier,
     pub condition: Condition,
     pub filter: Condition,
-    pub listed: Vec<Observed>,
-    /// The arrays that stand in `locations` without an index, by the index of their first element.
-    pub whole: Vec<usize>,
-    /// What the terms of the filter look at, and those of the condition.
-    pub filtered: Vec<Observed>,
-    pub terms: Vec<Observed>,
+    pub listed: Listed,
 }
 
-/// What stands before the quantifier: `locations` and a filter, each once at the most.
+/// What stands in `locations`, and the arrays that stand there without an index, by the index of their first element.
 #[derive(Drop)]
-struct Before {
-    has_list: bool,
-    has_filter: bool,
-    listed: Vec<Observed>,
-    whole: Vec<usize>,
-    filter: Condition,
-    filtered: Vec<Observed>,
+pub(crate) struct Listed {
+    pub observed: Vec<Observed>,
+    pub whole: Vec<usize>,
 }
 
 /// Reads all that stands behind the rows. Where `locations` stands, there may be no condition: it is `forall (true)`
 /// then.
-pub(crate) fn read_question(asked: &Asked, words: &[Word]) -> Result<Question, Stop> {
-    let mut before = Before {
-        has_list: false,
-        has_filter: false,
-        listed: Vec::new(asked.alloc),
-        whole: Vec::new(asked.alloc),
-        filter: Condition::Always,
-        filtered: Vec::new(asked.alloc),
-    };
-    let rest = read_part(asked, words, &mut before)?;
-    let rest = read_part(asked, rest, &mut before)?;
-    let mut leaves = no_leaves(asked);
-    let (quantifier, condition) = if rest.is_empty() && before.has_list {
-        (Quantifier::ForAll, Condition::Always)
-    } else {
-        read_quantified(asked, rest, &mut leaves)?
-    };
+pub(crate) fn read_question(asked: &Asked, words: &[Word]) -> Result<Question, Stop>
+    ensures { IfOk result (λ q. SpellsQuestion words.now q.quantifier q.condition q.filter
+        q.listed.observed.items q.listed.whole.items) }
+{
+    let mut listed = no_list(asked);
+    let (has_list, filter, rest) = read_before(asked, words, &mut listed)?;
+    let (quantifier, condition) = read_asked(asked, has_list, rest)?;
     Ok(Question {
         quantifier,
         condition,
-        filter: before.filter,
-        listed: before.listed,
-        whole: before.whole,
-        filtered: before.filtered,
-        terms: leaves.observed,
+        filter,
+        listed,
     })
 }
 
-fn no_leaves(asked: &Asked) -> Leaves {
-    Leaves {
-        count: 0,
+fn no_list(asked: &Asked) -> Listed
+    ensures observed { result.observed.items ≡ [] }
+    ensures whole { result.whole.items ≡ [] }
+{
+    Listed {
         observed: Vec::new(asked.alloc),
+        whole: Vec::new(asked.alloc),
     }
 }
 
-/// Reads a quantifier and a condition, with nothing behind it.
-fn read_quantified(
+/// Reads a quantifier and a condition, or nothing where there is a list.
+fn read_asked(
     asked: &Asked,
+    has_list: bool,
     words: &[Word],
-    leaves: &mut Leaves,
-) -> Result<(Quantifier, Condition), Stop> {
+) -> Result<(Quantifier, Condition), Stop>
+    ensures { IfOk result (λ p. IsAskedAfter has_list words.now p.0 p.1) }
+{
+    if has_list {
+        if words.is_empty() {
+            return Ok((Quantifier::ForAll, Condition::Always));
+        }
+    }
+    let (quantifier, condition) = read_quantified(asked, words)?;
+    Ok((quantifier, condition))
+}
+
+/// Reads a quantifier and a condition, with nothing behind it.
+fn read_quantified(asked: &Asked, words: &[Word]) -> Result<(Quantifier, Condition), Stop>
+    ensures { IfOk result (λ p. IsAsked words.now p.0 p.1) }
+{
     let (quantifier, rest) = read_quantifier(words, asked.end)?;
-    let (condition, rest) = read_condition(asked, rest, MOST_NESTED as u8, leaves)?;
+    let (condition, rest) = read_whole(asked, rest)?;
     nothing(rest, Fault::BehindCondition)?;
     Ok((quantifier, condition))
 }
 
-/// Reads `locations` or a filter, where it stands and is the first of its kind.
-fn read_part<'a>(
+/// Reads `locations` and a filter, in either order, where they stand. Says whether there is a list, and the filter.
+fn read_before<'a>(
     asked: &Asked,
     words: &'a [Word],
-    before: &mut Before,
-) -> Result<&'a [Word], Stop> {
-    if begins_with(words, Mark::Locations) && !before.has_list {
-        before.has_list = true;
-        return read_locations(asked, words, before);
+    listed: &mut Listed,
+) -> Result<(bool, Condition, &'a [Word]), Stop>
+    ensures { IfOk result (λ p. IsBefore words.now p.0 listed.new.observed.items listed.new.whole.items p.1 p.2.now) }
+{
+    if begins_with(words, Mark::Filter) {
+        let (filter, between) = read_filter(asked, words)?;
+        let (has_list, rest) = may_list(asked, between, listed)?;
+        return Ok((has_list, filter, rest));
     }
-    if begins_with(words, Mark::Filter) && !before.has_filter {
-        return read_filter(asked, words, before);
+    let (has_list, between) = may_list(asked, words, listed)?;
+    let (filter, rest) = may_filter(asked, between)?;
+    Ok((has_list, filter, rest))
+}
+
+/// Reads `locations`, where it stands, and says whether it does.
+fn may_list<'a>(
+    asked: &Asked,
+    words: &'a [Word],
+    listed: &mut Listed,
+) -> Result<(bool, &'a [Word]), Stop>
+    ensures { IfOk result (λ p. MayList words.now p.0 listed.new.observed.items listed.new.whole.items p.1.now) }
+{
+    if begins_with(words, Mark::Locations) {
+        let rest = read_locations(asked, words, listed)?;
+        return Ok((true, rest));
     }
-    Ok(words)
+    *listed = no_list(asked);
+    Ok((false, words))
+}
+
+/// Reads a filter, where it stands.
+fn may_filter<'a>(asked: &Asked, words: &'a [Word]) -> Result<(Condition, &'a [Word]), Stop>
+    ensures { IfOk result (λ p. MayFilter words.now p.0 p.1.now) }
+{
+    if begins_with(words, Mark::Filter) {
+        let (filter, rest) = read_filter(asked, words)?;
+        return Ok((filter, rest));
+    }
+    Ok((Condition::Always, words))
 }
 
 /// Reads `filter` and a condition.
-fn read_filter<'a>(
-    asked: &Asked,
-    words: &'a [Word],
-    before: &mut Before,
-) -> Result<&'a [Word], Stop> {
+fn read_filter<'a>(asked: &Asked, words: &'a [Word]) -> Result<(Condition, &'a [Word]), Stop>
+    ensures { IfOk result (λ p. FilterTaken words.now p.0 p.1.now) }
+{
     let behind = mark(words, Mark::Filter, asked.end)?;
-    let mut leaves = no_leaves(asked);
-    let (filter, rest) = read_condition(asked, behind, MOST_NESTED as u8, &mut leaves)?;
-    before.has_filter = true;
-    before.filter = filter;
-    before.filtered = leaves.observed;
-    Ok(rest)
+    let (filter, rest) = read_whole(asked, behind)?;
+    Ok((filter, rest))
+}
+
+/// Reads a condition, of which no term was read before.
+fn read_whole<'a>(asked: &Asked, words: &'a [Word]) -> Result<(Condition, &'a [Word]), Stop>
+    ensures { IfOk result (λ p. ConditionTaken 4 words.now p.0 p.1.now) }
+{
+    let mut leaves = Leaves { count: 0 };
+    let (condition, rest) = read_condition(asked, words, MOST_NESTED as u8, &mut leaves)?;
+    Ok((condition, rest))
 }
 
 /// Reads `locations [0:x7; x;]`.
 fn read_locations<'a>(
     asked: &Asked,
     words: &'a [Word],
-    before: &mut Before,
-) -> Result<&'a [Word], Stop> {
+    listed: &mut Listed,
+) -> Result<&'a [Word], Stop>
+    ensures { IfOk result (λ rest.
+        ListTaken words.now listed.new.observed.items listed.new.whole.items rest.now) }
+{
     let behind = mark(words, Mark::Locations, asked.end)?;
-    let mut rest = mark(behind, Mark::LeftBracket, asked.end)?;
+    let inside = mark(behind, Mark::LeftBracket, asked.end)?;
+    *listed = no_list(asked);
+    let rest = read_items(asked, inside, listed)?;
+    Ok(rest)
+}
+
+/// Reads `0:x7; x;]`.
+fn read_items<'a>(asked: &Asked, words: &'a [Word], listed: &mut Listed) -> Result<&'a [Word], Stop>
+    requires observed { listed.old.observed.items ≡ [] }
+    requires whole { listed.old.whole.items ≡ [] }
+    ensures { IfOk result (λ rest.
+        ListedTaken words.now listed.new.observed.items listed.new.whole.items rest.now) }
+{
+    let mut rest = words;
     while !begins_with(rest, Mark::RightBracket) {
-        let behind = read_listed(asked, rest, before)?;
+        let behind = read_item(asked, rest, listed)?;
         if begins_with(behind, Mark::RightBracket) {
-            return mark(behind, Mark::RightBracket, asked.end);
+            let after = mark(behind, Mark::RightBracket, asked.end)?;
+            return Ok(after);
         }
         rest = mark(behind, Mark::Semicolon, asked.end)?;
     }
-    mark(rest, Mark::RightBracket, asked.end)
+    let after = mark(rest, Mark::RightBracket, asked.end)?;
+    Ok(after)
 }
 
 /// Reads what is listed: an array as a whole, or what a term looks at too.
-fn read_listed<'a>(
-    asked: &Asked,
-    words: &'a [Word],
-    before: &mut Before,
-) -> Result<&'a [Word], Stop>
-    ensures { IfOk result (λ rest. length rest.now ≤ length words.now) }
+fn read_item<'a>(asked: &Asked, words: &'a [Word], listed: &mut Listed) -> Result<&'a [Word], Stop>
+    ensures { IfOk result (λ rest. ItemTaken words.now listed.old.observed.items listed.old.whole.items
+        listed.new.observed.items listed.new.whole.items rest.now) }
 {
     if let Some((declared, behind)) = whole_array(words) {
-        list_elements(declared, &mut before.listed)?;
-        before.whole.push(declared.first)?;
+        list_elements(declared, &mut listed.observed)?;
+        list_whole(declared.first, &mut listed.whole)?;
         return Ok(behind);
     }
     let (observed, behind) = read_observed(asked, words)?;
-    before.listed.push(observed)?;
+    list_one(observed, &mut listed.observed)?;
     Ok(behind)
 }
 
 /// The array with whose name the words begin, without an index, and the words behind.
 fn whole_array(words: &[Word]) -> Option<(Declared, &[Word])>
-    ensures { IfSome result (λ p. length p.1.now ≤ length words.now) }
+    ensures { IfSome result (λ p. WholeTaken words.now p.0 p.1.now) }
 {
     let Some((word, behind)) = words.split_first() else {
         return None;
@@ -159,22 +220,48 @@ fn whole_array(words: &[Word]) -> Option<(Declared, &[Word])>
     let Token::Location(declared) = word.token else {
         return None;
     };
-    if !declared.is_array || begins_with(behind, Mark::LeftBracket) {
+    if !declared.is_array {
+        return None;
+    }
+    if begins_with(behind, Mark::LeftBracket) {
         return None;
     }
     Some((declared, behind))
 }
 
+/// Lists one more.
+fn list_one(one: Observed, listed: &mut Vec<Observed>) -> Result<(), Stop>
+    ensures { OnOk result (listed.new.items ≡ listed.old.items ++ one ∷ []) }
+{
+    listed.push(one)?;
+    Ok(())
+}
+
+/// Keeps an array that is listed as a whole.
+fn list_whole(first: usize, whole: &mut Vec<usize>) -> Result<(), Stop>
+    ensures { OnOk result (whole.new.items ≡ whole.old.items ++ first ∷ []) }
+{
+    whole.push(first)?;
+    Ok(())
+}
+
 /// Lists each element of an array.
-fn list_elements(declared: Declared, listed: &mut Vec<Observed>) -> Result<(), Stop> {
-    for element in 0..elements_of(declared) {
-        listed.push(Observed::Location(declared.first.saturating_add(element)))?;
+fn list_elements(declared: Declared, listed: &mut Vec<Observed>) -> Result<(), Stop>
+    ensures { OnOk result (listed.new.items
+        ≡ listed.old.items ++ elements_from (elements_of declared) declared.first) }
+{
+    let count = elements_of(declared);
+    for element in 0..count {
+        let index = index_of(declared, element)?;
+        list_one(Observed::Location(index), listed)?;
     }
     Ok(())
 }
 
 /// Reads `exists`, `~exists` or `forall`.
-fn read_quantifier(words: &[Word], end: usize) -> Result<(Quantifier, &[Word]), Stop> {
+fn read_quantifier(words: &[Word], end: usize) -> Result<(Quantifier, &[Word]), Stop>
+    ensures { IfOk result (λ p. Takes words.now (quantifier_tokens p.0) p.1.now) }
+{
     let (word, rest) = match words.split_first() {
         Some((word, rest)) => (*word, rest),
         None => return Err(Stop::at(end, Fault::NoCondition)),

@@ -1,10 +1,17 @@
 //! The harts, and the rows below them.
 
+ghost use Rattle.std.specs.Prelude.{◌≡◌, ◌≤◌, ◌+◌, ◌∷◌, List, length, IfOk, OnOk};
+ghost use Rattle.litmus_words.specs.declared.word.Word.{Word as AnyWord};
+ghost use Rattle.litmus_reading.specs.Rows.{cell_at, is_bar, parted_by};
+ghost use Rattle.litmus_reading.specs.Texts.{IsHead, IsHeadRow, IsTable};
+
 use litmus_words::{Fault, Mark, Stop, Token, Word, cut, is_mark, start_of};
 use numbers::sizes::HART_ROOM;
 
 /// Reads `P0 | P1 ;`: how many harts there are, and the words behind.
-pub(crate) fn read_harts(words: &[Word], end: usize) -> Result<(u8, &[Word]), Stop> {
+pub(crate) fn read_harts(words: &[Word], end: usize) -> Result<(u8, &[Word]), Stop>
+    ensures { IfOk result (λ p. IsHeadRow words.now p.0 p.1.now) }
+{
     let (row, behind) = cut(words, Mark::Semicolon);
     if row.len() == words.len() {
         return Err(Stop::at(end, Fault::Unfinished));
@@ -12,8 +19,8 @@ pub(crate) fn read_harts(words: &[Word], end: usize) -> Result<(u8, &[Word]), St
     if let Some(word) = row.get(2 * HART_ROOM) {
         return Err(Stop::at(word.start, Fault::TooManyHarts));
     }
-    for (place, word) in row.iter().enumerate() {
-        check_head(place, *word)?;
+    for place in 0..row.len() {
+        check_head(place, row[place])?;
     }
     if row.len() % 2 == 0 {
         return Err(Stop::at(start_of(row, end), Fault::Unfinished));
@@ -22,7 +29,9 @@ pub(crate) fn read_harts(words: &[Word], end: usize) -> Result<(u8, &[Word]), St
 }
 
 /// Refuses a word that doesn't belong at this place of the row of harts: they have a bar between.
-fn check_head(place: usize, word: Word) -> Result<(), Stop> {
+fn check_head(place: usize, word: Word) -> Result<(), Stop>
+    ensures { OnOk result (IsHead place word.token) }
+{
     if place % 2 == 1 {
         if is_mark(word, Mark::Bar) {
             return Ok(());
@@ -36,14 +45,16 @@ fn check_head(place: usize, word: Word) -> Result<(), Stop> {
 }
 
 /// The rows, with a column for each of so many harts and a `;` behind each, and the words behind them.
-pub(crate) fn rows_of(words: &[Word], harts: u8, end: usize) -> Result<(&[Word], &[Word]), Stop> {
+pub(crate) fn rows_of(words: &[Word], harts: u8, end: usize) -> Result<(&[Word], &[Word]), Stop>
+    ensures { IfOk result (λ p. IsTable harts words.now p.0.now p.1.now) }
+{
     let mut rest = words;
     while !asks(rest) {
         let (row, behind) = cut(rest, Mark::Semicolon);
         if row.len() == rest.len() {
             return Err(Stop::at(end, Fault::NoCondition));
         }
-        let (columns, harts) = (columns_of(row), usize::from(harts));
+        let (columns, harts) = (columns_of(row), harts as usize);
         if columns != harts {
             return Err(Stop::at(start_of(rest, end), Fault::Columns { columns, harts }));
         }
@@ -67,21 +78,35 @@ pub(crate) fn asks(words: &[Word]) -> bool {
 }
 
 /// How many columns a row has.
-pub(crate) fn columns_of(row: &[Word]) -> usize {
+pub(crate) fn columns_of(row: &[Word]) -> usize
+    ensures { result ≡ length (parted_by is_bar row.now) }
+{
     let mut columns = 1;
     for word in row {
-        if is_mark(*word, Mark::Bar) {
-            columns += 1;
-        }
+        columns += bars_in(*word);
     }
     columns
 }
 
-/// The cell of a row in the column of a hart.
-pub(crate) fn cell_of(row: &[Word], hart: u8) -> &[Word] {
-    let mut rest = row;
-    for _ in 0..hart {
-        rest = cut(rest, Mark::Bar).1;
+/// 1 of a bar, which begins another column.
+fn bars_in(word: Word) -> usize
+    ensures few { result ≤ 1 }
+    ensures parts { (words : List AnyWord) → length (parted_by is_bar (word ∷ words))
+        ≡ length (parted_by is_bar words) + result }
+{
+    if is_mark(word, Mark::Bar) {
+        return 1;
     }
-    cut(rest, Mark::Bar).0
+    0
+}
+
+/// The cell of a row in the column of a hart.
+pub(crate) fn cell_of(row: &[Word], hart: u8) -> &[Word]
+    ensures { result.now ≡ cell_at hart row.now }
+{
+    let (cell, behind) = cut(row, Mark::Bar);
+    if hart == 0 {
+        return cell;
+    }
+    cell_of(behind, hart - 1)
 }

@@ -1,19 +1,30 @@
 //! The start: what the braces say of registers and locations.
 
-ghost use Rattle.std.specs.Prelude.{◌≤◌, length, IfOk};
+ghost use Rattle.std.specs.Prelude.{◌≡◌, ◌++◌, ◌∷◌, [], None, IfOk, OnOk};
+ghost use Rattle.litmus_words.specs.Tokens.{tokens};
+ghost use Rattle.litmus_reading.specs.Starts.{
+  initial_in,
+  initial_of,
+  start_at,
+  start_in,
+  starts_of,
+  AddedTaken,
+  AreEntries,
+  EntryTaken,
+  NameTaken,
+  RegisterTaken,
+};
 
-use crate::declarations::behind_type;
-use crate::fitting::{check_pointer, check_width};
-use crate::locations::elements_of;
-use litmus_tests::{NumberType, RegisterStart, Value, Width, narrowed};
+use crate::contents::{Given, read_contents, read_given, read_value};
+use litmus_tests::{RegisterStart, Value};
 use litmus_words::{
     Declared, Fault, Mark, Stop, Token, Word, behind_mark, declared, mark, natural, next,
-    register_but_zero, start_of, value,
+    register_but_zero, start_of,
 };
 use numbers::Reg;
 use std::alloc::Global;
 
-/// A register of a hart, and what it holds at the start. The hart is told at this byte.
+/// A register of a hart, and what it holds at the start. The entry is told at this byte.
 #[derive(Clone, Copy, Drop)]
 pub(crate) struct HartStart {
     pub at: usize,
@@ -29,103 +40,93 @@ pub(crate) struct Initial {
     pub value: Value,
 }
 
-/// What an entry says of the value that it gives: the type of a number, or of those that it points to.
+/// What an entry speaks of. One of an array speaks of several elements.
 #[derive(Clone, Copy, Drop)]
-struct Given {
-    number_type: NumberType,
-    is_pointer: bool,
+pub(crate) enum Entry {
+    Register(HartStart),
+    Location(Initial),
 }
 
-/// What the braces say.
-#[derive(Drop)]
-pub(crate) struct Start {
-    pub registers: Vec<HartStart>,
-    pub locations: Vec<Initial>,
-}
-
-/// A start of which nothing is said.
-pub(crate) fn no_start(alloc: Global) -> Start {
-    Start {
-        registers: Vec::new(alloc),
-        locations: Vec::new(alloc),
+/// Reads an entry with which the words begin, behind which a `;` stands or nothing does, and adds it. Of one that is
+/// refused nothing is added.
+pub(crate) fn read_whole_entry(
+    entries: &mut Vec<Entry>,
+    words: &[Word],
+    end: usize,
+) -> Result<(), Stop> {
+    let before = entries.len();
+    match read_entry(entries, words, end) {
+        Ok(behind) => {
+            if !behind.is_empty() {
+                mark(behind, Mark::Semicolon, end)?;
+            }
+            Ok(())
+        }
+        Err(stop) => {
+            entries.truncate(before);
+            Err(stop)
+        }
     }
-}
-
-/// Reads an entry with which the words begin, behind which a `;` stands or nothing does.
-pub(crate) fn read_whole_entry(start: &mut Start, words: &[Word], end: usize) -> Result<(), Stop> {
-    let behind = read_entry(start, words, end)?;
-    if !behind.is_empty() {
-        mark(behind, Mark::Semicolon, end)?;
-    }
-    Ok(())
 }
 
 /// Reads what stands in the braces: entries, each but the last with a `;` behind it.
-pub(crate) fn read_start(words: &[Word], end: usize, alloc: Global) -> Result<Start, Stop> {
-    let mut start = no_start(alloc);
+pub(crate) fn read_start(words: &[Word], end: usize, alloc: Global) -> Result<Vec<Entry>, Stop>
+    ensures { IfOk result (λ entries. AreEntries [] entries.items (tokens words.now)) }
+{
+    let mut entries = Vec::new(alloc);
     let mut rest = words;
     while !rest.is_empty() {
-        let behind = read_entry(&mut start, rest, end)?;
+        let behind = read_entry(&mut entries, rest, end)?;
         if behind.is_empty() {
-            return Ok(start);
+            return Ok(entries);
         }
         rest = mark(behind, Mark::Semicolon, end)?;
     }
-    Ok(start)
+    Ok(entries)
 }
 
 /// Reads an entry: a register of a hart, a location or an array, and what it holds. A type may stand before it, and `*`
 /// behind that.
-fn read_entry<'a>(start: &mut Start, words: &'a [Word], end: usize) -> Result<&'a [Word], Stop>
-    ensures { IfOk result (λ rest. length rest.now ≤ length words.now) }
+fn read_entry<'a>(
+    entries: &mut Vec<Entry>,
+    words: &'a [Word],
+    end: usize,
+) -> Result<&'a [Word], Stop>
+    ensures { IfOk result (λ rest. EntryTaken words.now entries.old.items entries.new.items rest.now) }
 {
-    let (given, words) = read_given(words);
-    let (word, _) = next(words, end)?;
+    let (given, behind) = read_given(words);
+    let (word, _) = next(behind, end)?;
     match word.token {
-        Token::Number(_) => read_register(&mut start.registers, given, words, end),
-        _ => read_location(&mut start.locations, given, words, end),
+        Token::Number(_) => {
+            let rest = add_register(entries, given, behind, end)?;
+            Ok(rest)
+        }
+        _ => {
+            let rest = add_location(entries, given, behind, end)?;
+            Ok(rest)
+        }
     }
 }
 
-/// The type and the `*` before an entry.
-fn read_given(words: &[Word]) -> (Given, &[Word])
-    ensures { length result.1.now ≤ length words.now }
-{
-    let (number_type, rest) = behind_type(words);
-    let Some(behind) = behind_mark(rest, Mark::Star) else {
-        let given = Given {
-            number_type,
-            is_pointer: false,
-        };
-        return (given, rest);
-    };
-    let given = Given {
-        number_type,
-        is_pointer: true,
-    };
-    (given, behind)
-}
-
-/// Reads a value that is given so.
-fn read_value(given: Given, words: &[Word], end: usize) -> Result<(Value, &[Word]), Stop>
-    ensures { IfOk result (λ p. length p.1.now ≤ length words.now) }
-{
-    if given.is_pointer {
-        check_pointer(words, given.number_type.width)?;
-    } else {
-        check_width(words, given.number_type.width, end)?;
-    }
-    value(words, end)
-}
-
-/// Reads `0:x5=1`.
-fn read_register<'a>(
-    starts: &mut Vec<HartStart>,
+/// Adds a register of a hart, of which no entry before may speak.
+fn add_register<'a>(
+    entries: &mut Vec<Entry>,
     given: Given,
     words: &'a [Word],
     end: usize,
 ) -> Result<&'a [Word], Stop>
-    ensures { IfOk result (λ rest. length rest.now ≤ length words.now) }
+    ensures { IfOk result (λ rest. AddedTaken words.now entries.old.items entries.new.items rest.now) }
+{
+    let (start, rest) = read_register(given, words, end)?;
+    let before = start_in(entries.as_slice(), start.hart, start.register);
+    check_once(before, start.at)?;
+    add_entry(entries, Entry::Register(start))?;
+    Ok(rest)
+}
+
+/// Reads `0:x5=1`.
+fn read_register(given: Given, words: &[Word], end: usize) -> Result<(HartStart, &[Word]), Stop>
+    ensures { IfOk result (λ p. RegisterTaken words.now p.0 p.1.now) }
 {
     let at = start_of(words, end);
     let (hart, rest) = natural(words, end)?;
@@ -133,55 +134,34 @@ fn read_register<'a>(
     let (register, rest) = register_but_zero(rest, end)?;
     let rest = mark(rest, Mark::Equals, end)?;
     let (value, rest) = read_value(given, rest, end)?;
-    if start_in(starts.as_slice(), hart, register).is_some() {
-        return Err(Stop::at(at, Fault::Twice));
-    }
-    starts.push(HartStart {
+    let start = HartStart {
         at,
         hart,
         register,
         value,
-    })?;
-    Ok(rest)
+    };
+    Ok((start, rest))
 }
 
-/// Reads `x=1`, `[x]=1` or `x`, which then holds 0, and arrays.
-fn read_location<'a>(
-    initials: &mut Vec<Initial>,
+/// Adds a location or an array, `x=1`, `[x]=1`, `x`, `x[2]` or `x[2]={1,2}`, of which no entry before may speak.
+fn add_location<'a>(
+    entries: &mut Vec<Entry>,
     given: Given,
     words: &'a [Word],
     end: usize,
 ) -> Result<&'a [Word], Stop>
-    ensures { IfOk result (λ rest. length rest.now ≤ length words.now) }
+    ensures { IfOk result (λ rest. AddedTaken words.now entries.old.items entries.new.items rest.now) }
 {
     let (declared, rest) = read_name(words, end)?;
-    let is_second = initial_in(initials.as_slice(), declared.first).is_some();
-    let rest = read_contents(initials, given, declared, rest, end)?;
-    if is_second {
-        return Err(Stop::at(start_of(words, end), Fault::Twice));
-    }
+    let before = initial_in(entries.as_slice(), declared.first);
+    let rest = read_contents(entries, given, declared, rest, end)?;
+    check_once(before, start_of(words, end))?;
     Ok(rest)
-}
-
-/// Reads what a location holds, or the elements of an array.
-fn read_contents<'a>(
-    initials: &mut Vec<Initial>,
-    given: Given,
-    declared: Declared,
-    words: &'a [Word],
-    end: usize,
-) -> Result<&'a [Word], Stop>
-    ensures { IfOk result (λ rest. length rest.now ≤ length words.now) }
-{
-    if declared.is_array {
-        return read_array(initials, given, declared, words, end);
-    }
-    read_initial(initials, given, declared, words, end)
 }
 
 /// Reads the name of a location, in brackets or without.
 fn read_name(words: &[Word], end: usize) -> Result<(Declared, &[Word]), Stop>
-    ensures { IfOk result (λ p. length p.1.now ≤ length words.now) }
+    ensures { IfOk result (λ p. NameTaken words.now p.0 p.1.now) }
 {
     match behind_mark(words, Mark::LeftBracket) {
         Some(inner) => {
@@ -189,157 +169,104 @@ fn read_name(words: &[Word], end: usize) -> Result<(Declared, &[Word]), Stop>
             let rest = mark(rest, Mark::RightBracket, end)?;
             Ok((name, rest))
         }
-        None => declared(words, end),
+        None => {
+            let (name, rest) = declared(words, end)?;
+            Ok((name, rest))
+        }
     }
 }
 
-/// Reads what a location holds that is no array: 0 where nothing is said.
-fn read_initial<'a>(
-    initials: &mut Vec<Initial>,
-    given: Given,
-    declared: Declared,
-    words: &'a [Word],
-    end: usize,
-) -> Result<&'a [Word], Stop>
-    ensures { IfOk result (λ rest. length rest.now ≤ length words.now) }
+/// Refuses an entry of which an entry before says already what it holds.
+fn check_once(before: Option<Value>, at: usize) -> Result<(), Stop>
+    ensures { OnOk result (before ≡ None) }
 {
-    let location = declared.first;
-    let Some(behind) = behind_mark(words, Mark::Equals) else {
-        let value = Value::Number(0);
-        initials.push(Initial { location, value })?;
-        return Ok(words);
-    };
-    let (value, rest) = read_value(given, behind, end)?;
-    initials.push(Initial { location, value })?;
-    Ok(rest)
+    match before {
+        Some(_) => Err(Stop::at(at, Fault::Twice)),
+        None => Ok(()),
+    }
 }
 
-/// Reads `[2]` or `[2]={1,2}` behind the name of an array. The elements of which nothing is said hold 0.
-fn read_array<'a>(
-    initials: &mut Vec<Initial>,
-    given: Given,
-    declared: Declared,
-    words: &'a [Word],
-    end: usize,
-) -> Result<&'a [Word], Stop>
-    ensures { IfOk result (λ rest. length rest.now ≤ length words.now) }
+/// Adds an entry.
+pub(crate) fn add_entry(entries: &mut Vec<Entry>, entry: Entry) -> Result<(), Stop>
+    ensures { OnOk result (entries.new.items ≡ entries.old.items ++ entry ∷ []) }
 {
-    let rest = mark(words, Mark::LeftBracket, end)?;
-    let at = start_of(rest, end);
-    let (count, rest) = natural(rest, end)?;
-    if count == 0 || given.is_pointer {
-        return Err(Stop::at(at, Fault::NotOfSubset));
-    }
-    let rest = mark(rest, Mark::RightBracket, end)?;
-    let (location, value) = (declared.first, Value::Number(0));
-    let Some(behind) = behind_mark(rest, Mark::Equals) else {
-        initials.push(Initial { location, value })?;
-        return Ok(rest);
-    };
-    let inner = mark(behind, Mark::LeftBrace, end)?;
-    read_elements(initials, given, declared, inner, end)
-}
-
-/// Reads `1,2}`.
-fn read_elements<'a>(
-    initials: &mut Vec<Initial>,
-    given: Given,
-    declared: Declared,
-    words: &'a [Word],
-    end: usize,
-) -> Result<&'a [Word], Stop>
-    ensures { IfOk result (λ rest. length rest.now ≤ length words.now) }
-{
-    let mut rest = words;
-    for element in 0..elements_of(declared) {
-        let (value, behind) = read_value(given, rest, end)?;
-        let location = declared.first.saturating_add(element);
-        initials.push(Initial { location, value })?;
-        let Some(next) = behind_mark(behind, Mark::Comma) else {
-            return mark(behind, Mark::RightBrace, end);
-        };
-        rest = next;
-    }
-    Err(Stop::at(start_of(rest, end), Fault::NoElement))
+    entries.push(entry)?;
+    Ok(())
 }
 
 /// What a register holds at the start, where that is said.
-fn start_in(starts: &[HartStart], hart: u32, register: Reg) -> Option<Value> {
-    for start in starts {
-        if start.hart == hart && start.register == register {
-            return Some(start.value);
+fn start_in(entries: &[Entry], hart: u32, register: Reg) -> Option<Value>
+    ensures { result ≡ start_in entries.now hart register }
+{
+    for entry in entries {
+        if let Entry::Register(start) = entry {
+            if start.hart == hart && start.register == register {
+                return Some(start.value);
+            }
         }
     }
     None
 }
 
 /// What a location holds at the start, where that is said.
-fn initial_in(initials: &[Initial], location: usize) -> Option<Value> {
-    for initial in initials {
-        if initial.location == location {
-            return Some(initial.value);
+fn initial_in(entries: &[Entry], location: usize) -> Option<Value>
+    ensures { result ≡ initial_in entries.now location }
+{
+    for entry in entries {
+        if let Entry::Location(initial) = entry {
+            if initial.location == location {
+                return Some(initial.value);
+            }
         }
     }
     None
 }
 
-impl Start {
-    /// A word of memory of a location or an array, by its index in it: a number of 32 bits, or several narrower ones side
-    /// by side, the lowest first.
-    pub(crate) fn word(&self, declared: Declared, word: usize) -> Value {
-        match declared.number_type.width {
-            Width::Byte => Value::Number(self.joined(declared, word, 4, 0x100)),
-            Width::Half => Value::Number(self.joined(declared, word, 2, 0x1_0000)),
-            Width::Word => self.initial(declared.first.saturating_add(word)),
-        }
-    }
+/// What a location holds at the start.
+pub(crate) fn initial_of(entries: &[Entry], location: usize) -> Value
+    ensures { result ≡ initial_of entries.now location }
+{
+    initial_in(entries, location).unwrap_or(Value::Number(0))
+}
 
-    /// So many numbers side by side in a word, each below the same one.
-    fn joined(&self, declared: Declared, word: usize, count: usize, below: u32) -> u32 {
-        let mut joined = 0_u32;
-        let end = word.saturating_add(1).saturating_mul(count);
-        for place in 0..count {
-            let element = end.saturating_sub(place).saturating_sub(1);
-            joined = joined.wrapping_mul(below);
-            joined = joined.wrapping_add(self.element(declared, element));
-        }
-        joined
+/// What is said of the registers of a hart, x1 first.
+pub(crate) fn starts_of(
+    entries: &[Entry],
+    hart: u8,
+    alloc: Global,
+) -> Result<Vec<RegisterStart>, Stop>
+    ensures { IfOk result (λ starts. starts.items ≡ starts_of entries.now hart) }
+{
+    let mut starts = Vec::new(alloc);
+    for register in 1..32 {
+        add_start(entries, hart, register, &mut starts)?;
     }
+    Ok(starts)
+}
 
-    /// The number of an element of a declared location, 0 where it hasn't so many.
-    fn element(&self, declared: Declared, element: usize) -> u32 {
-        if element >= elements_of(declared) {
-            return 0;
-        }
-        match self.initial(declared.first.saturating_add(element)) {
-            Value::Number(number) => narrowed(declared.number_type.width, number),
-            Value::Address(_) => 0,
-        }
+/// Adds what is said of a register.
+fn add_start(
+    entries: &[Entry],
+    hart: u8,
+    register: Reg,
+    starts: &mut Vec<RegisterStart>,
+) -> Result<(), Stop>
+    ensures { OnOk result (starts.new.items ≡ starts.old.items ++ start_at entries.now hart register) }
+{
+    if let Some(value) = start_in(entries, u32::from(hart), register) {
+        starts.push(RegisterStart { register, value })?;
     }
+    Ok(())
+}
 
-    /// What a location holds at the start.
-    pub(crate) fn initial(&self, location: usize) -> Value {
-        initial_in(self.locations.as_slice(), location).unwrap_or(Value::Number(0))
-    }
-
-    /// What is said of the registers of a hart, x1 first.
-    pub(crate) fn of_hart(&self, hart: u8, alloc: Global) -> Result<Vec<RegisterStart>, Stop> {
-        let mut starts = Vec::new(alloc);
-        for register in 1..32 {
-            if let Some(value) = start_in(self.registers.as_slice(), u32::from(hart), register) {
-                starts.push(RegisterStart { register, value })?;
-            }
-        }
-        Ok(starts)
-    }
-
-    /// Refuses a hart that isn't among so many.
-    pub(crate) fn names_harts(&self, harts: u8) -> Result<(), Stop> {
-        for start in self.registers.as_slice() {
+/// Refuses a hart that isn't among so many.
+pub(crate) fn check_harts(entries: &[Entry], harts: u8) -> Result<(), Stop> {
+    for entry in entries {
+        if let Entry::Register(start) = entry {
             if start.hart >= u32::from(harts) {
                 return Err(Stop::at(start.at, Fault::NoHart));
             }
         }
-        Ok(())
     }
+    Ok(())
 }

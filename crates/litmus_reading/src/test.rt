@@ -1,22 +1,38 @@
 //! A whole test.
 
-ghost use Rattle.std.specs.Prelude.{◌≤◌, ◌<◌, length, IfOk, IfErr, IfSome};
+ghost use Rattle.std.specs.Prelude.{◌≡◌, ◌≤◌, ◌<◌, ◌+◌, ◌*◌, length, get_or, slice_range, IfOk, IfErr, IfSome, OnOk};
 ghost use Rattle.litmus_tests.specs.WellFormed.{IsWellFormed};
 ghost use Rattle.litmus_words.specs.Places.{IsRefusedIn};
+ghost use Rattle.litmus_words.specs.Parts.{element_size};
+ghost use Rattle.litmus_words.specs.declared.word.Word.{Word as AnyWord};
+ghost use Rattle.litmus_reading.specs.Texts.{
+  element_of,
+  open_behind,
+  AreLocations,
+  AreThreads,
+  IsBraced,
+  IsClosedAt,
+  IsElementOf,
+  IsOfWords,
+  IsTextOf,
+  LocationsAdded,
+};
 
 use crate::condition::Asked;
 use crate::head::{Head, read_head};
-use crate::locations::{Named, count_of, elements_of, located, locations_in, size_of};
+use crate::locations::{Named, elements_of, located, locations_in};
+use crate::memory::read_memory;
 use crate::observed::observed_of;
-use crate::question::{Question, read_question};
+use crate::question::read_question;
 use crate::rows::{read_harts, rows_of};
 use crate::sound::makes_sense;
-use crate::start::{Start, read_start};
+use crate::start::{Entry, check_harts, read_start, starts_of};
 use crate::thread::read_steps;
-use litmus_tests::{Element, LitmusTest, Location, Thread, Value};
+use litmus_tests::test::MOST_LOCATIONS;
+use litmus_tests::{Element, LitmusTest, Location, Thread, Width};
 use litmus_words::{
-    Declared, Fault, MOST_BYTES, Mark, ReadingRefused, Shown, Stop, Word, bytes_of, is_mark,
-    name_end, place_of, start_of, words_of,
+    Declared, Fault, MOST_BYTES, Mark, ReadingRefused, Shown, Stop, Token, Word, bytes_of, is_mark,
+    name_end, next, place_of, start_of, words_of,
 };
 use std::alloc::Global;
 use std::str;
@@ -25,6 +41,7 @@ use std::str;
 /// reason than want of memory is refused at a place of the text.
 pub fn read_litmus(text: &[u8], alloc: Global) -> Result<LitmusTest, ReadingRefused>
     ensures sound { IfOk result IsWellFormed }
+    ensures read { IfOk result (IsTextOf text.now) }
     ensures refused { IfErr result (IsRefusedIn text.now) }
 {
     match read_test(text, alloc) {
@@ -57,11 +74,10 @@ pub(crate) fn shown_at(text: &[u8], at: usize, fault: Fault) -> Shown
 }
 
 fn read_test(text: &[u8], alloc: Global) -> Result<LitmusTest, Stop>
-    ensures { IfOk result IsWellFormed }
+    ensures sound { IfOk result IsWellFormed }
+    ensures read { IfOk result (IsTextOf text.now) }
 {
-    if text.len() > MOST_BYTES {
-        return Err(Stop::at(MOST_BYTES, Fault::TooLong));
-    }
+    check_length(text)?;
     let head = read_head(text)?;
     let words = words_of(text, head.braces, alloc)?;
     let (inside, _) = braces(words.as_slice(), text.len())?;
@@ -74,12 +90,24 @@ fn read_test(text: &[u8], alloc: Global) -> Result<LitmusTest, Stop>
     Ok(test)
 }
 
-/// The words in the braces, and behind them.
-pub(crate) fn braces(words: &[Word], end: usize) -> Result<(&[Word], &[Word]), Stop> {
-    if words.is_empty() {
-        return Err(Stop::at(end, Fault::Unfinished));
+/// Refuses a text of more bytes than there may be.
+fn check_length(text: &[u8]) -> Result<(), Stop>
+    ensures { OnOk result (length text.now ≤ 65536) }
+{
+    if text.len() > MOST_BYTES {
+        return Err(Stop::at(MOST_BYTES, Fault::TooLong));
     }
-    let words = &words[1..];
+    Ok(())
+}
+
+/// The words in the braces, and behind them.
+pub(crate) fn braces(words: &[Word], end: usize) -> Result<(&[Word], &[Word]), Stop>
+    ensures { IfOk result (λ p. IsBraced words.now p.0.now p.1.now) }
+{
+    let (first, words) = next(words, end)?;
+    if !is_mark(first, Mark::LeftBrace) {
+        return Err(Stop::at(first.start, Fault::NotOfSubset));
+    }
     match closing(words) {
         Some(place) => Ok((&words[..place], &words[place + 1..])),
         None => Err(Stop::at(end, Fault::Unfinished)),
@@ -88,20 +116,37 @@ pub(crate) fn braces(words: &[Word], end: usize) -> Result<(&[Word], &[Word]), S
 
 /// The index of the brace that closes what was opened before the words: those of arrays stand in it.
 fn closing(words: &[Word]) -> Option<usize>
-    ensures { IfSome result (λ place. place < length words.now) }
+    ensures inside { IfSome result (λ place. place < length words.now) }
+    ensures closes { IfSome result (IsClosedAt words.now) }
 {
-    let mut open = 0_usize;
+    let mut depth = 0_usize;
     for place in 0..words.len() {
-        if is_mark(words[place], Mark::LeftBrace) {
-            open = open.saturating_add(1);
-        } else if is_mark(words[place], Mark::RightBrace) {
-            if open == 0 {
-                return Some(place);
-            }
-            open -= 1;
-        }
+        let next = match open_behind(words, place, depth) {
+            Some(next) => next,
+            None => return Some(place),
+        };
+        depth = next;
     }
     None
+}
+
+/// How many braces are open behind a word, before which so many are; none where it closes what was open before.
+fn open_behind(words: &[Word], place: usize, depth: usize) -> Option<usize>
+    requires inside { place < length words.now }
+    requires few { depth ≤ place }
+    ensures after { (d : AnyWord) → result ≡ open_behind (get_or words.now place d).token depth }
+    ensures few { IfSome result (λ next. next ≤ place + 1) }
+{
+    match words[place].token {
+        Token::Mark(Mark::LeftBrace) => Some(depth + 1),
+        Token::Mark(Mark::RightBrace) => {
+            if depth == 0 {
+                return None;
+            }
+            Some(depth - 1)
+        }
+        _ => Some(depth),
+    }
 }
 
 /// Reads the words of a test, in which the names of locations are known.
@@ -113,26 +158,29 @@ fn read_words(
     alloc: Global,
 ) -> Result<LitmusTest, Stop>
     requires { (head.name_start ≤ head.name_end) × (head.name_end ≤ length text.now) }
+    ensures name { IfOk result (λ test.
+        test.name.items ≡ slice_range text.now head.name_start head.name_end) }
+    ensures words { IfOk result (IsOfWords text.now names.now words.now) }
 {
     let end = text.len();
     let (inside, behind) = braces(words, end)?;
-    let start = read_start(inside, end, alloc)?;
+    let entries = read_start(inside, end, alloc)?;
     let (harts, behind) = read_harts(behind, end)?;
-    start.names_harts(harts)?;
-    let (rows, behind) = rows_of(behind, harts, end)?;
-    let question = read_question(&Asked { harts, end, alloc }, behind)?;
-    let observed = observed_of(
-        &question,
-        harts,
-        count_of(names),
-        start_of(behind, end),
-        alloc,
-    )?;
+    check_harts(entries.as_slice(), harts)?;
+    let (rows, asked) = rows_of(behind, harts, end)?;
+    let question = read_question(&Asked { harts, end, alloc }, asked)?;
+    let whole = question.listed.whole.as_slice();
+    let locations = read_locations(text, names, whole, alloc)?;
+    let count = locations.len();
+    let observed = observed_of(&question, harts, count, start_of(asked, end), alloc)?;
+    let name = Vec::from_slice(alloc, &text[head.name_start..head.name_end])?;
+    let memory = read_memory(names, entries.as_slice(), alloc)?;
+    let threads = read_threads(text, rows, harts, entries.as_slice(), alloc)?;
     Ok(LitmusTest {
-        name: Vec::from_slice(alloc, &text[head.name_start..head.name_end])?,
-        words: read_memory(names, &start, alloc)?,
-        locations: read_locations(text, names, &question, alloc)?,
-        threads: read_threads(text, rows, harts, &start, alloc)?,
+        name,
+        words: memory,
+        locations,
+        threads,
         quantifier: question.quantifier,
         condition: question.condition,
         filter: question.filter,
@@ -140,56 +188,85 @@ fn read_words(
     })
 }
 
-/// The words of the locations.
-fn read_memory(names: &[Named], start: &Start, alloc: Global) -> Result<Vec<Value>, Stop> {
-    let mut words = Vec::new(alloc);
-    for name in names {
-        let count = name.declared.size.saturating_add(3) / 4;
-        for word in 0..count {
-            words.push(start.word(name.declared, word))?;
-        }
-    }
-    Ok(words)
-}
-
 /// The locations of a test, each element of an array one.
 fn read_locations(
     text: &[u8],
     names: &[Named],
-    question: &Question,
+    whole: &[usize],
     alloc: Global,
-) -> Result<Vec<Location>, Stop> {
+) -> Result<Vec<Location>, Stop>
+    ensures { IfOk result (λ locations. AreLocations text.now whole.now names.now locations.items) }
+{
     let mut locations = Vec::new(alloc);
     for name in names {
-        for index in 0..elements_of(name.declared) {
-            let bytes = Vec::from_slice(alloc, bytes_of(text, name.word))?;
-            locations.push(location_of(bytes, name.declared, index, question))?;
-        }
+        add_elements(text, *name, whole, &mut locations, alloc)?;
     }
     Ok(locations)
 }
 
-/// A location with this name, or an element of the array of this name.
-fn location_of(name: Vec<u8>, declared: Declared, index: usize, question: &Question) -> Location {
-    let before = index.saturating_mul(size_of(declared.number_type.width));
-    Location {
-        name,
-        element: element_of(declared, index, question),
-        byte: declared.byte.saturating_add(before),
+/// Adds a location, or each element of an array.
+fn add_elements(
+    text: &[u8],
+    name: Named,
+    whole: &[usize],
+    locations: &mut Vec<Location>,
+    alloc: Global,
+) -> Result<(), Stop>
+    ensures { OnOk result (LocationsAdded text.now whole.now name locations.old.items locations.new.items) }
+{
+    let count = elements_of(name.declared);
+    for index in 0..count {
+        let location = location_of(text, name, index, whole, alloc)?;
+        locations.push(location)?;
+    }
+    Ok(())
+}
+
+/// A location, or an element of an array.
+fn location_of(
+    text: &[u8],
+    name: Named,
+    index: usize,
+    whole: &[usize],
+    alloc: Global,
+) -> Result<Location, Stop>
+    ensures { IfOk result (IsElementOf text.now whole.now name index) }
+{
+    let declared = name.declared;
+    Ok(Location {
+        name: Vec::from_slice(alloc, bytes_of(text, name.word))?,
+        element: element_of(declared, index, whole),
+        byte: byte_of(declared, index)?,
         begin: declared.byte,
         number_type: declared.number_type,
+    })
+}
+
+/// Where an element stands.
+fn byte_of(declared: Declared, index: usize) -> Result<usize, Stop>
+    ensures { IfOk result (λ byte. byte ≡ declared.byte + index * element_size declared) }
+{
+    if declared.byte > 4 * MOST_LOCATIONS || index > 4 * MOST_LOCATIONS {
+        return Err(Stop::at(0, Fault::TooManyLocations));
     }
+    Ok(match declared.number_type.width {
+        Width::Byte => declared.byte + index,
+        Width::Half => declared.byte + index * 2,
+        Width::Word => declared.byte + index * 4,
+    })
 }
 
 /// The element with this index, where it is one of an array.
-fn element_of(declared: Declared, index: usize, question: &Question) -> Option<Element> {
+fn element_of(declared: Declared, index: usize, whole: &[usize]) -> Option<Element>
+    ensures { result ≡ element_of whole.now declared index }
+{
     if !declared.is_array {
         return None;
     }
     Some(Element {
         index,
         count: elements_of(declared),
-        is_whole: question.whole.as_slice().contains(&declared.first),
+        is_whole: whole.contains(&declared.first),
     })
 }
 
@@ -198,13 +275,16 @@ fn read_threads(
     text: &[u8],
     rows: &[Word],
     harts: u8,
-    start: &Start,
+    entries: &[Entry],
     alloc: Global,
-) -> Result<Vec<Thread>, Stop> {
+) -> Result<Vec<Thread>, Stop>
+    ensures count { IfOk result (λ threads. length threads.items ≡ harts) }
+    ensures are { IfOk result (λ threads. AreThreads text.now rows.now entries.now 0 threads.items) }
+{
     let mut threads = Vec::new(alloc);
     for hart in 0..harts {
         threads.push(Thread {
-            starts: start.of_hart(hart, alloc)?,
+            starts: starts_of(entries, hart, alloc)?,
             steps: read_steps(text, rows, hart, alloc)?,
         })?;
     }

@@ -1,21 +1,42 @@
 //! What one hart does: the cells of its column, one below the other.
 
+ghost use Rattle.std.specs.Prelude.{◌≡◌, ◌++◌, [], None, IfOk, OnOk};
+ghost use Rattle.litmus_reading.specs.Rows.{column_of};
+ghost use Rattle.litmus_reading.specs.Threads.{
+  instruction_of,
+  instructions_of,
+  label_at,
+  label_of,
+  labels_from,
+  target_of,
+  AreOnce,
+  AreSpelled,
+  AreStepsOf,
+  IsStepOf,
+  SpellsThread,
+  StepAdded,
+};
+
 use crate::instruction::{Written, read_instruction};
-use crate::locations::index_of;
 use crate::operands::is_label;
 use crate::rows::cell_of;
 use litmus_tests::LitmusStep;
 use litmus_tests::test::MOST_STEPS;
-use litmus_words::{Fault, Mark, Stop, Word, behind_mark, cut, start_of};
+use litmus_words::{Fault, Mark, Stop, Word, cut, is_mark, same_bytes, start_of};
 use std::alloc::Global;
 
-/// The instructions of a hart as they are written, and the labels, each with the index of the step before which it
-/// stands.
+/// A label, with the index of the step before which it stands.
+#[derive(Clone, Copy, Drop)]
+pub(crate) struct Label {
+    pub word: Word,
+    pub place: usize,
+}
+
+/// The instructions of a hart as they are written, and the labels.
 #[derive(Drop)]
 pub(crate) struct Column {
     pub steps: Vec<Written>,
-    labels: Vec<Word>,
-    places: Vec<usize>,
+    pub labels: Vec<Label>,
 }
 
 /// Reads what a hart does from the rows.
@@ -24,11 +45,32 @@ pub(crate) fn read_steps(
     rows: &[Word],
     hart: u8,
     alloc: Global,
-) -> Result<Vec<LitmusStep>, Stop> {
+) -> Result<Vec<LitmusStep>, Stop>
+    ensures { IfOk result (λ steps. SpellsThread text.now rows.now hart steps.items) }
+{
     let column = read_column(text, rows, hart, alloc)?;
+    let steps = steps_of(
+        text,
+        column.labels.as_slice(),
+        column.steps.as_slice(),
+        alloc,
+    )?;
+    Ok(steps)
+}
+
+/// The steps that instructions are, whose branches lead to these labels.
+fn steps_of(
+    text: &[u8],
+    labels: &[Label],
+    all: &[Written],
+    alloc: Global,
+) -> Result<Vec<LitmusStep>, Stop>
+    ensures { IfOk result (λ steps. AreStepsOf text.now labels.now all.now steps.items) }
+{
     let mut steps = Vec::new(alloc);
-    for written in column.steps.as_slice() {
-        steps.push(step_of(text, &column, *written)?)?;
+    for written in all {
+        let step = step_of(text, labels, *written)?;
+        steps.push(step)?;
     }
     Ok(steps)
 }
@@ -38,57 +80,107 @@ pub(crate) fn no_column(alloc: Global) -> Column {
     Column {
         steps: Vec::new(alloc),
         labels: Vec::new(alloc),
-        places: Vec::new(alloc),
     }
 }
 
-fn read_column(text: &[u8], rows: &[Word], hart: u8, alloc: Global) -> Result<Column, Stop> {
-    let mut column = no_column(alloc);
+fn read_column(text: &[u8], rows: &[Word], hart: u8, alloc: Global) -> Result<Column, Stop>
+    ensures steps { IfOk result (λ column.
+        AreSpelled (instructions_of (column_of hart rows.now)) column.steps.items) }
+    ensures labels { IfOk result (λ column.
+        column.labels.items ≡ labels_from 0 (column_of hart rows.now)) }
+    ensures once { OnOk result (AreOnce text.now [] (labels_from 0 (column_of hart rows.now))) }
+{
+    let mut steps = Vec::new(alloc);
+    let mut labels = Vec::new(alloc);
     let mut rest = rows;
     while !rest.is_empty() {
         let (row, behind) = cut(rest, Mark::Semicolon);
-        read_cell(text, &mut column, cell_of(row, hart))?;
+        let cell = cell_of(row, hart);
+        let instruction = instruction_of(cell);
+        add_label(text, &mut labels, steps.len(), cell)?;
+        add_step(text, &mut steps, instruction)?;
         rest = behind;
     }
-    Ok(column)
+    Ok(Column { steps, labels })
 }
 
 /// Reads a cell: a label, an instruction, both, or nothing.
 pub(crate) fn read_cell(text: &[u8], column: &mut Column, cell: &[Word]) -> Result<(), Stop> {
-    let instruction = read_label(text, column, cell)?;
+    add_label(text, &mut column.labels, column.steps.len(), cell)?;
+    add_step(text, &mut column.steps, instruction_of(cell))
+}
+
+/// Reads the instruction of a cell, if it has one.
+fn add_step(text: &[u8], steps: &mut Vec<Written>, instruction: &[Word]) -> Result<(), Stop>
+    ensures { OnOk result (StepAdded instruction.now steps.old.items steps.new.items) }
+{
     let Some(last) = instruction.last() else {
         return Ok(());
     };
     let written = read_instruction(text, instruction, last.end)?;
-    if column.steps.len() >= MOST_STEPS {
+    if steps.len() >= MOST_STEPS {
         return Err(Stop::at(start_of(instruction, last.end), Fault::TooManySteps));
     }
-    column.steps.push(written)?;
+    steps.push(written)?;
     Ok(())
 }
 
-/// Reads the label of a cell, if it has one, and hands on the instruction.
-fn read_label<'a>(text: &[u8], column: &mut Column, cell: &'a [Word]) -> Result<&'a [Word], Stop> {
-    let Some((label, rest)) = cell.split_first() else {
-        return Ok(cell);
+/// Reads the label of a cell, if it has one, before the step of this index.
+fn add_label(text: &[u8], labels: &mut Vec<Label>, place: usize, cell: &[Word]) -> Result<(), Stop>
+    ensures added { OnOk result (labels.new.items ≡ labels.old.items ++ label_at place cell.now) }
+    ensures once { OnOk result (AreOnce text.now labels.old.items (label_at place cell.now)) }
+{
+    let Some(word) = label_of(cell) else {
+        return Ok(());
     };
-    let Some(behind) = behind_mark(rest, Mark::Colon) else {
-        return Ok(cell);
-    };
-    if !is_label(*label) {
-        return Err(Stop::at(label.start, Fault::NotOfSubset));
+    if !is_label(word) {
+        return Err(Stop::at(word.start, Fault::NotOfSubset));
     }
-    if index_of(text, column.labels.as_slice(), *label).is_some() {
-        return Err(Stop::at(label.start, Fault::LabelTwice));
+    check_new(text, labels.as_slice(), word)?;
+    labels.push(Label { word, place })?;
+    Ok(())
+}
+
+/// Refuses a label that is there already.
+fn check_new(text: &[u8], labels: &[Label], word: Word) -> Result<(), Stop>
+    ensures { OnOk result (target_of text.now labels.now word ≡ None) }
+{
+    match target_of(text, labels, word) {
+        Some(_) => Err(Stop::at(word.start, Fault::LabelTwice)),
+        None => Ok(()),
     }
-    let place = column.steps.len();
-    column.labels.push(*label)?;
-    column.places.push(place)?;
-    Ok(behind)
+}
+
+/// The label of a cell: the word before its colon.
+fn label_of(cell: &[Word]) -> Option<Word>
+    ensures { result ≡ label_of cell.now }
+{
+    if cell.len() < 2 {
+        return None;
+    }
+    if is_mark(cell[1], Mark::Colon) {
+        return Some(cell[0]);
+    }
+    None
+}
+
+/// The instruction of a cell: what stands behind its colon, or else all of it.
+fn instruction_of(cell: &[Word]) -> &[Word]
+    ensures { result.now ≡ instruction_of cell.now }
+{
+    if cell.len() < 2 {
+        return cell;
+    }
+    if is_mark(cell[1], Mark::Colon) {
+        return &cell[2..];
+    }
+    cell
 }
 
 /// The step that an instruction is: a branch has the index of the step behind its label.
-pub(crate) fn step_of(text: &[u8], column: &Column, written: Written) -> Result<LitmusStep, Stop> {
+pub(crate) fn step_of(text: &[u8], labels: &[Label], written: Written) -> Result<LitmusStep, Stop>
+    ensures { IfOk result (IsStepOf text.now labels.now written) }
+{
     match written {
         Written::Straight(instr) => Ok(LitmusStep::Straight(instr)),
         Written::Fence(fence) => Ok(LitmusStep::Fence(fence)),
@@ -98,7 +190,7 @@ pub(crate) fn step_of(text: &[u8], column: &Column, written: Written) -> Result<
             left,
             right,
             label,
-        } => match place_of(text, column, label) {
+        } => match target_of(text, labels, label) {
             Some(target) => Ok(LitmusStep::Branch {
                 op,
                 left,
@@ -110,8 +202,14 @@ pub(crate) fn step_of(text: &[u8], column: &Column, written: Written) -> Result<
     }
 }
 
-/// The index of the step behind a label.
-fn place_of(text: &[u8], column: &Column, label: Word) -> Option<usize> {
-    let index = index_of(text, column.labels.as_slice(), label)?;
-    column.places.get(index).copied()
+/// Where a label leads.
+fn target_of(text: &[u8], labels: &[Label], word: Word) -> Option<usize>
+    ensures { result ≡ target_of text.now labels.now word }
+{
+    for label in labels {
+        if same_bytes(text, label.word, word) {
+            return Some(label.place);
+        }
+    }
+    None
 }

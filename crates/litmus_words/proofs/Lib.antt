@@ -1,6 +1,10 @@
 pub mod Cutting
 pub mod Digits
+pub mod Ending
+pub mod InstructionNames
 pub mod Naming
+pub mod Once
 pub mod Placing
 pub mod Standing
+pub mod Tables
 pub mod Taking

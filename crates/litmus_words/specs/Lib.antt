@@ -1,3 +1,6 @@
+pub mod Answered
+pub mod Bytes
+pub mod Comments
 pub mod Cuts
 pub mod Gaps
 pub mod Mnemonics

@@ -67,18 +67,28 @@ swapped_branch_name Bltu = Some (codes "bgtu")
 swapped_branch_name Bgeu = Some (codes "bleu")
 swapped_branch_name op = None
 
+-- The text is the name of an instruction that no row has: of a branch, or of another.
+abbrev pub IsOtherBranch : List ℕ → Mnemonic → Type 0
+IsOtherBranch text (name.BranchZero op) = branch_zero_name op ≡ Some text
+IsOtherBranch text (name.ZeroBranch op) = zero_branch_name op ≡ Some text
+IsOtherBranch text (name.SwappedBranch op) = swapped_branch_name op ≡ Some text
+IsOtherBranch text mnemonic = ⊥
+
+abbrev pub IsOtherName : List ℕ → Mnemonic → Type 0
+IsOtherName text name.Constant = text ≡ codes "li"
+IsOtherName text name.LoadAddress = text ≡ codes "la"
+IsOtherName text name.Move = text ≡ codes "mv"
+IsOtherName text name.Nothing = text ≡ codes "nop"
+IsOtherName text name.Jump = text ≡ codes "j"
+IsOtherName text name.TotalStoreOrderFence = text ≡ codes "fence.tso"
+IsOtherName text mnemonic = ⊥
+
+-- The text is the name of a row that is this instruction.
+pub record IsNameOfRow (text : List ℕ) (mnemonic : Mnemonic) : Type 0 where
+  pub row : Row
+  pub named : IsRowNamed text row
+  pub is : IsOfRow row mnemonic
+
 -- The text is the name.
 abbrev pub IsNamed : List ℕ → Mnemonic → Type 0
-IsNamed text (name.Row row) = IsRowNamed text row × (is_taken row ≡ true)
-IsNamed text (name.Branch op) = IsRowNamed text (row_of.Branch op)
-IsNamed text name.Fence = IsRowNamed text row_of.Fence
-IsNamed text name.JumpAndLink = IsRowNamed text row_of.Jal
-IsNamed text name.Constant = text ≡ codes "li"
-IsNamed text name.LoadAddress = text ≡ codes "la"
-IsNamed text name.Move = text ≡ codes "mv"
-IsNamed text name.Nothing = text ≡ codes "nop"
-IsNamed text (name.BranchZero op) = branch_zero_name op ≡ Some text
-IsNamed text (name.ZeroBranch op) = zero_branch_name op ≡ Some text
-IsNamed text (name.SwappedBranch op) = swapped_branch_name op ≡ Some text
-IsNamed text name.Jump = text ≡ codes "j"
-IsNamed text name.TotalStoreOrderFence = text ≡ codes "fence.tso"
+IsNamed text mnemonic = IsOtherName text mnemonic ⊎ IsOtherBranch text mnemonic ⊎ IsNameOfRow text mnemonic

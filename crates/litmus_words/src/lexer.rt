@@ -1,11 +1,17 @@
 //! A text cut into words. Blanks, line ends and comments stand between them.
 
-ghost use Rattle.std.specs.Prelude.{◌≡◌, ◌+◌, ◌≤◌, ◌<◌, true, length, slice_range, All, IfOk, IfSome};
-ghost use Rattle.litmus_words.specs.Gaps.{IsGap, IsRestOf, Opens, StandFrom};
-ghost use Rattle.litmus_words.specs.Words.{IsMarkNamed, IsWordOf};
+ghost use Rattle.std.specs.Prelude.{◌≡◌, ◌+◌, ◌≤◌, ◌<◌, ℕ, true, false, List, length, slice_index, slice_range};
+ghost use Rattle.std.specs.Prelude.{All, IfErr, IfNone, IfOk, IfSome};
+ghost use Rattle.std.specs.Char.{is_ascii_digit};
+ghost use Rattle.litmus_words.specs.declared.word.Mark.{Mark as AnyMark};
+ghost use Rattle.litmus_words.specs.declared.word.Word.{Word as AnyWord};
+ghost use Rattle.litmus_words.specs.Answered.{Gives, GivesOrMemory};
+ghost use Rattle.litmus_words.specs.Comments.{IsRestOf, Opens};
+ghost use Rattle.litmus_words.specs.Gaps.{IsGap, IsGapEnd, StandFrom};
+ghost use Rattle.litmus_words.specs.Words.{begins_name, GoesOn, IsSignNamed, IsWordAt, IsWordOf};
 
-use crate::names::{is_of_name, mark_of, name_token};
-use crate::numeral::number_token;
+use crate::names::{is_of_name, name_token, sign_of};
+use crate::numeral::number_of_word;
 use crate::refused::{Fault, Stop};
 use crate::word::{Mark, Token, Word};
 use std::alloc::Global;
@@ -15,6 +21,8 @@ pub fn words_of(text: &[u8], from: usize, alloc: Global) -> Result<Vec<Word>, St
     requires { from ≤ length text.now }
     ensures spelled { IfOk result (λ words. All (IsWordOf text.now) words.items) }
     ensures stand { IfOk result (λ words. StandFrom text.now from words.items) }
+    ensures only { (words : List AnyWord) → StandFrom text.now from words
+        → GivesOrMemory result (λ found. found.items ≡ words) }
 {
     let mut words = Vec::new(alloc);
     let mut at = skip_blanks(text, from)?;
@@ -32,6 +40,8 @@ pub fn skip_blanks(text: &[u8], from: usize) -> Result<usize, Stop>
     ensures on { IfOk result (λ at. from ≤ at) }
     ensures inside { IfOk result (λ at. at ≤ length text.now) }
     ensures gap { IfOk result (IsGap text.now from) }
+    ensures over { IfOk result (IsGapEnd text.now) }
+    ensures only { (to : ℕ) → IsGap text.now from to → IsGapEnd text.now to → Gives result (λ at. at ≡ to) }
 {
     let mut at = from;
     while at < text.len() {
@@ -51,6 +61,7 @@ fn opens_at(text: &[u8], at: usize) -> bool
     requires { at < length text.now }
     ensures inside { result ≡ true → at + 2 ≤ length text.now }
     ensures opens { result ≡ true → Opens text.now at }
+    ensures other { result ≡ false → Opens text.now at → ⊥ }
 {
     if text.len() - at < 2 {
         return false;
@@ -67,6 +78,7 @@ fn comment_end(text: &[u8], from: usize) -> Result<usize, Stop>
     ensures on { IfOk result (λ at. from < at) }
     ensures inside { IfOk result (λ at. at ≤ length text.now) }
     ensures rest { IfOk result (IsRestOf text.now 1 (from + 2)) }
+    ensures only { (to : ℕ) → IsRestOf text.now 1 (from + 2) to → Gives result (λ at. at ≡ to) }
 {
     let mut depth = 1usize;
     let mut at = from + 2;
@@ -89,25 +101,25 @@ fn comment_end(text: &[u8], from: usize) -> Result<usize, Stop>
 
 /// The word that begins there.
 fn word_at(text: &[u8], at: usize) -> Result<Word, Stop>
-    requires { at < length text.now }
+    requires inside { at < length text.now }
+    requires no_comment { Opens text.now at → ⊥ }
     ensures begins { IfOk result (λ word. word.start ≡ at) }
     ensures start { IfOk result (λ word. at < word.end) }
     ensures inside { IfOk result (λ word. word.end ≤ length text.now) }
     ensures spelled { IfOk result (IsWordOf text.now) }
+    ensures refused { IfErr result (λ _. (word : AnyWord) → IsWordAt text.now at word → ⊥) }
 {
     let first = text[at];
-    if first.is_ascii_alphabetic() || first == b'_' {
-        let end = name_end(text, at + 1);
-        return Ok(Word {
-            start: at,
-            end,
-            token: name_token(&text[at..end]),
-        });
+    if first.is_ascii_alphabetic() {
+        return Ok(name_at(text, at));
+    }
+    if first == b'_' {
+        return Ok(name_at(text, at));
     }
     if first.is_ascii_digit() {
         return number_at(text, at);
     }
-    match mark_at(text, at) {
+    match sign_at(text, at) {
         Some((mark, end)) => Ok(Word {
             start: at,
             end,
@@ -117,20 +129,39 @@ fn word_at(text: &[u8], at: usize) -> Result<Word, Stop>
     }
 }
 
+/// The name that begins there.
+fn name_at(text: &[u8], at: usize) -> Word
+    requires inside { at < length text.now }
+    requires begins { begins_name (slice_index text.now at) ≡ true }
+    ensures begins { result.start ≡ at }
+    ensures start { at < result.end }
+    ensures inside { result.end ≤ length text.now }
+    ensures spelled { IsWordOf text.now result }
+{
+    let end = name_end(text, at + 1);
+    Word {
+        start: at,
+        end,
+        token: name_token(&text[at..end]),
+    }
+}
+
 /// The number that begins there.
 fn number_at(text: &[u8], at: usize) -> Result<Word, Stop>
-    requires { at < length text.now }
+    requires inside { at < length text.now }
+    requires begins { is_ascii_digit (slice_index text.now at) ≡ true }
     ensures begins { IfOk result (λ word. word.start ≡ at) }
     ensures start { IfOk result (λ word. at < word.end) }
     ensures inside { IfOk result (λ word. word.end ≤ length text.now) }
     ensures spelled { IfOk result (IsWordOf text.now) }
+    ensures refused { IfErr result (λ _. (word : AnyWord) → IsWordAt text.now at word → ⊥) }
 {
     let end = name_end(text, at + 1);
-    match number_token(&text[at..end]) {
-        Ok(token) => Ok(Word {
+    match number_of_word(&text[at..end]) {
+        Ok(number) => Ok(Word {
             start: at,
             end,
-            token,
+            token: Token::Number(number),
         }),
         Err(fault) => Err(Stop::at(at, fault)),
     }
@@ -141,42 +172,52 @@ pub fn name_end(text: &[u8], from: usize) -> usize
     requires { from ≤ length text.now }
     ensures on { from ≤ result }
     ensures inside { result ≤ length text.now }
+    ensures whole { GoesOn text.now from result }
 {
     let mut at = from;
-    while at < text.len() && is_of_name(text[at]) {
+    while at < text.len() {
+        if !is_of_name(text[at]) {
+            return at;
+        }
         at += 1;
     }
     at
 }
 
-/// The longest mark that begins there, and the byte behind it.
-fn mark_at(text: &[u8], at: usize) -> Option<(Mark, usize)>
+/// The longest sign that begins there, and the byte behind it.
+fn sign_at(text: &[u8], at: usize) -> Option<(Mark, usize)>
     requires { at < length text.now }
     ensures on { IfSome result (λ p. at < p.1) }
     ensures inside { IfSome result (λ p. p.1 ≤ length text.now) }
-    ensures mark { IfSome result (λ p. IsMarkNamed (slice_range text.now at p.1) p.0) }
+    ensures found { IfSome result (λ p. IsSignNamed (slice_range text.now at p.1) p.0) }
+    ensures longest { IfSome result (λ p. (mark : AnyMark) → (end : ℕ) → end ≤ length text.now
+        → IsSignNamed (slice_range text.now at end) mark → end ≤ p.1) }
+    ensures none { IfNone result ((mark : AnyMark) → (end : ℕ) → end ≤ length text.now
+        → IsSignNamed (slice_range text.now at end) mark → ⊥) }
 {
-    if let Some(found) = mark_of_length(text, at, 3) {
+    if let Some(found) = sign_of_length(text, at, 3) {
         return Some(found);
     }
-    if let Some(found) = mark_of_length(text, at, 2) {
+    if let Some(found) = sign_of_length(text, at, 2) {
         return Some(found);
     }
-    mark_of_length(text, at, 1)
+    sign_of_length(text, at, 1)
 }
 
-/// The mark of so many bytes that begins there, and the byte behind it.
-fn mark_of_length(text: &[u8], at: usize, count: usize) -> Option<(Mark, usize)>
+/// The sign of so many bytes that begins there, and the byte behind it.
+fn sign_of_length(text: &[u8], at: usize, count: usize) -> Option<(Mark, usize)>
     requires inside { at < length text.now }
     requires some { (1 ≤ count) × (count ≤ 3) }
-    ensures on { IfSome result (λ p. at < p.1) }
     ensures inside { IfSome result (λ p. p.1 ≤ length text.now) }
-    ensures mark { IfSome result (λ p. IsMarkNamed (slice_range text.now at p.1) p.0) }
+    ensures end { IfSome result (λ p. p.1 ≡ at + count) }
+    ensures found { IfSome result (λ p. IsSignNamed (slice_range text.now at p.1) p.0) }
+    ensures none { IfNone result ((mark : AnyMark) → at + count ≤ length text.now
+        → IsSignNamed (slice_range text.now at (at + count)) mark → ⊥) }
 {
     if text.len() - at < count {
         return None;
     }
-    match mark_of(&text[at..at + count]) {
+    match sign_of(&text[at..at + count]) {
         Some(mark) => Some((mark, at + count)),
         None => None,
     }

@@ -1,7 +1,17 @@
 //! The names of instructions: rows of the instruction table, which `rv_text` names, and what assemblers write beside.
 
-ghost use Rattle.std.specs.Prelude.{◌≡◌, ◌++◌, ◌∷◌, IfSome};
-ghost use Rattle.litmus_words.specs.Mnemonics.{IsNamed, IsRowNamed, IsOfRow, is_taken};
+ghost use Rattle.std.specs.Prelude.{◌≡◌, IfNone, IfSome};
+ghost use Rattle.rv_text.specs.declared.mnemonic.{Mnemonic.Mnemonic as AnyRow};
+ghost use Rattle.litmus_words.specs.declared.mnemonic.Mnemonic.{Mnemonic as AnyMnemonic};
+ghost use Rattle.litmus_words.specs.Mnemonics.{
+  HasDotBetween,
+  IsNamed,
+  IsOtherBranch,
+  IsOtherName,
+  IsOfRow,
+  IsRowNamed,
+  is_taken,
+};
 
 use rv_instr::{BranchOp, Ordering};
 use rv_text::{Mnemonic as Row, atomic_named};
@@ -39,7 +49,8 @@ pub enum Mnemonic {
 
 /// The instruction of this name.
 pub fn mnemonic_named(name: &str) -> Option<Mnemonic>
-    ensures { IfSome result (IsNamed name.now) }
+    ensures found { IfSome result (IsNamed name.now) }
+    ensures none { IfNone result ((mnemonic : AnyMnemonic) → IsNamed name.now mnemonic → ⊥) }
 {
     if let Some(mnemonic) = pseudo_named(name) {
         return Some(mnemonic);
@@ -55,7 +66,8 @@ pub fn mnemonic_named(name: &str) -> Option<Mnemonic>
 
 /// Of the names that no row has.
 fn pseudo_named(name: &str) -> Option<Mnemonic>
-    ensures { IfSome result (IsNamed name.now) }
+    ensures found { IfSome result (IsOtherName name.now) }
+    ensures none { IfNone result ((mnemonic : AnyMnemonic) → IsOtherName name.now mnemonic → ⊥) }
 {
     Some(match name {
         "li" => Mnemonic::Constant,
@@ -70,7 +82,8 @@ fn pseudo_named(name: &str) -> Option<Mnemonic>
 
 /// Of the branches that no row has.
 fn branch_named(name: &str) -> Option<Mnemonic>
-    ensures { IfSome result (IsNamed name.now) }
+    ensures found { IfSome result (IsOtherBranch name.now) }
+    ensures none { IfNone result ((mnemonic : AnyMnemonic) → IsOtherBranch name.now mnemonic → ⊥) }
 {
     Some(match name {
         "beqz" => Mnemonic::BranchZero(BranchOp::Beq),
@@ -89,21 +102,25 @@ fn branch_named(name: &str) -> Option<Mnemonic>
 
 /// The row of this name.
 fn row_named(name: &str) -> Option<Row>
-    ensures { IfSome result (IsRowNamed name.now) }
+    ensures found { IfSome result (IsRowNamed name.now) }
+    ensures none { IfNone result ((row : AnyRow) → IsRowNamed name.now row → ⊥) }
 {
-    match name.split_once('.') {
-        Some((stem, bits)) => dotted(name, stem, bits),
-        None => rv_text::mnemonic_named(name),
+    if let Some(row) = rv_text::mnemonic_named(name) {
+        return Some(row);
     }
+    dotted_named(name)
 }
 
-/// Of a name that is cut at its first dot. The two ordering bits of an atomic may stand with a dot between.
-fn dotted(name: &str, stem: &str, bits: &str) -> Option<Row>
-    requires { name.now ≡ stem.now ++ 46 ∷ bits.now }
-    ensures { IfSome result (IsRowNamed name.now) }
+/// The atomic of this name, in which both ordering bits stand with a dot between.
+fn dotted_named(name: &str) -> Option<Row>
+    ensures found { IfSome result (HasDotBetween name.now) }
+    ensures none { IfNone result ((row : AnyRow) → HasDotBetween name.now row → ⊥) }
 {
+    let Some((stem, bits)) = name.split_once('.') else {
+        return None;
+    };
     if bits != "w.aq.rl" {
-        return rv_text::mnemonic_named(name);
+        return None;
     }
     match atomic_named(stem) {
         Some(op) => Some(Row::Atomic(op, Ordering { aq: true, rl: true })),
@@ -113,7 +130,8 @@ fn dotted(name: &str, stem: &str, bits: &str) -> Option<Row>
 
 /// What a row is in a litmus test, if it is of the subset.
 fn of_row(row: Row) -> Option<Mnemonic>
-    ensures { IfSome result (IsOfRow row) }
+    ensures found { IfSome result (IsOfRow row) }
+    ensures none { IfNone result ((mnemonic : AnyMnemonic) → IsOfRow row mnemonic → ⊥) }
 {
     match row {
         Row::Branch(op) => Some(Mnemonic::Branch(op)),

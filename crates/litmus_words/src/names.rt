@@ -1,8 +1,17 @@
 //! What a name and a number are.
 
-ghost use Rattle.std.specs.Prelude.{◌≡◌, ◌∷◌, IfSome};
+ghost use Rattle.std.specs.Prelude.{◌≡◌, ◌∷◌, ◌<◌, ◌^◌, ℕ, true, length, slice_index, IfNone, IfSome};
 ghost use Rattle.std.specs.Fmt.{decimal};
-ghost use Rattle.litmus_words.specs.Words.{IsMarkNamed, IsRegisterNamed, IsTypeNamed, SpellsToken};
+ghost use Rattle.litmus_tests.specs.declared.number_type.NumberType.{NumberType as AnyType};
+ghost use Rattle.litmus_words.specs.declared.word.Mark.{Mark as AnyMark};
+ghost use Rattle.litmus_words.specs.Words.{
+  is_of_name,
+  IsKeywordNamed,
+  IsNameToken,
+  IsRegisterNamed,
+  IsSignNamed,
+  IsTypeNamed,
+};
 
 use crate::mnemonic::mnemonic_named;
 use crate::word::{Mark, Token};
@@ -13,13 +22,16 @@ use std::str;
 use text_fields::read_decimal;
 
 /// Whether a name or a number goes on with this byte.
-pub fn is_of_name(byte: u8) -> bool {
+pub fn is_of_name(byte: u8) -> bool
+    ensures { result ≡ is_of_name byte }
+{
     byte.is_ascii_alphanumeric() || byte == b'_' || byte == b'.'
 }
 
-/// What a name is: a register, a hart, a mark, a type, an instruction, or a name of which no more is known.
+/// What a name is: a register, a keyword, a type, an instruction, a hart, or a name of which no more is known.
 pub fn name_token(name: &[u8]) -> Token
-    ensures { SpellsToken name.now result }
+    requires { (i : ℕ) → i < length name.now → is_of_name (slice_index name.now i) ≡ true }
+    ensures { IsNameToken name.now result }
 {
     if let Some(register) = register_of(name) {
         return Token::Register(register);
@@ -32,9 +44,10 @@ pub fn name_token(name: &[u8]) -> Token
 
 /// What a name is that is no register.
 fn text_token(name: &str) -> Token
-    ensures { SpellsToken name.now result }
+    requires { (register : ℕ) → IsRegisterNamed name.now register → ⊥ }
+    ensures { IsNameToken name.now result }
 {
-    if let Some(mark) = mark_named(name) {
+    if let Some(mark) = keyword_named(name) {
         return Token::Mark(mark);
     }
     if let Some(number_type) = type_named(name) {
@@ -51,7 +64,8 @@ fn text_token(name: &str) -> Token
 
 /// The register of this name, x0 to x31.
 fn register_of(name: &[u8]) -> Option<Reg>
-    ensures { IfSome result (IsRegisterNamed name.now) }
+    ensures found { IfSome result (IsRegisterNamed name.now) }
+    ensures none { IfNone result ((register : ℕ) → IsRegisterNamed name.now register → ⊥) }
 {
     if name == b"x0".as_slice() || name == b"zero".as_slice() {
         return Some(0);
@@ -62,29 +76,21 @@ fn register_of(name: &[u8]) -> Option<Reg>
     register_named(name)
 }
 
-/// The mark that these bytes are.
-pub fn mark_of(bytes: &[u8]) -> Option<Mark>
-    ensures { IfSome result (IsMarkNamed bytes.now) }
+/// The sign that these bytes are.
+pub fn sign_of(bytes: &[u8]) -> Option<Mark>
+    ensures found { IfSome result (IsSignNamed bytes.now) }
+    ensures none { IfNone result ((mark : AnyMark) → IsSignNamed bytes.now mark → ⊥) }
 {
     match str::from_utf8(bytes) {
-        Ok(name) => mark_named(name),
+        Ok(name) => sign_named(name),
         Err(_) => None,
-    }
-}
-
-/// The mark of this name.
-fn mark_named(name: &str) -> Option<Mark>
-    ensures { IfSome result (IsMarkNamed name.now) }
-{
-    match sign_named(name) {
-        Some(mark) => Some(mark),
-        None => keyword_named(name),
     }
 }
 
 /// The marks that aren't names.
 fn sign_named(name: &str) -> Option<Mark>
-    ensures { IfSome result (IsMarkNamed name.now) }
+    ensures found { IfSome result (IsSignNamed name.now) }
+    ensures none { IfNone result ((mark : AnyMark) → IsSignNamed name.now mark → ⊥) }
 {
     Some(match name {
         "," => Mark::Comma,
@@ -113,7 +119,8 @@ fn sign_named(name: &str) -> Option<Mark>
 
 /// The names that are read as marks.
 fn keyword_named(name: &str) -> Option<Mark>
-    ensures { IfSome result (IsMarkNamed name.now) }
+    ensures found { IfSome result (IsKeywordNamed name.now) }
+    ensures none { IfNone result ((mark : AnyMark) → IsKeywordNamed name.now mark → ⊥) }
 {
     Some(match name {
         "not" => Mark::Not,
@@ -128,7 +135,8 @@ fn keyword_named(name: &str) -> Option<Mark>
 
 /// The type of this name.
 fn type_named(name: &str) -> Option<NumberType>
-    ensures { IfSome result (IsTypeNamed name.now) }
+    ensures found { IfSome result (IsTypeNamed name.now) }
+    ensures none { IfNone result ((number_type : AnyType) → IsTypeNamed name.now number_type → ⊥) }
 {
     Some(match name {
         "int8_t" => NumberType {
@@ -161,7 +169,8 @@ fn type_named(name: &str) -> Option<NumberType>
 
 /// `P` and the number of a hart.
 fn hart_named(name: &[u8]) -> Option<u32>
-    ensures { IfSome result (λ hart. name.now ≡ 80 ∷ decimal hart) }
+    ensures found { IfSome result (λ hart. name.now ≡ 80 ∷ decimal hart) }
+    ensures none { IfNone result ((hart : ℕ) → hart < 2 ^ 32 → name.now ≡ 80 ∷ decimal hart → ⊥) }
 {
     let Some((letter, digits)) = name.split_first() else {
         return None;

@@ -1,27 +1,33 @@
 //! What a word is that begins with a digit.
 
-ghost use Rattle.std.specs.Prelude.{◌≡◌, ◌≤◌, ◌+◌, ◌*◌, true, All, IfOk, IfSome};
-ghost use Rattle.litmus_words.specs.Numbers.{IsHexadecimal, SpellsDigits, digit_value, is_digit, number_after};
-ghost use Rattle.litmus_words.specs.Words.{SpellsToken};
+ghost use Rattle.std.specs.Prelude.{◌≡◌, ◌≤◌, ◌<◌, ◌+◌, ◌*◌, ◌^◌, ℕ, true, false, List};
+ghost use Rattle.std.specs.Prelude.{All, IfErr, IfNone, IfOk, IfSome};
+ghost use Rattle.litmus_words.specs.Numbers.{
+  IsHexadecimal,
+  SpellsDigits,
+  SpellsNumeral,
+  digit_value,
+  is_digit,
+  number_after,
+};
 
 use crate::refused::Fault;
-use crate::word::Token;
 
 /// The number that a word spells: decimal, also with zeros before it, or hexadecimal behind `0x` or `0X`.
-pub fn number_token(word: &[u8]) -> Result<Token, Fault>
-    ensures { IfOk result (SpellsToken word.now) }
+pub fn number_of_word(word: &[u8]) -> Result<u32, Fault>
+    ensures found { IfOk result (SpellsNumeral word.now) }
+    ensures refused { IfErr result (λ _. (number : ℕ) → number < 2 ^ 32 → SpellsNumeral word.now number → ⊥) }
 {
-    if let Some(digits) = hexadecimal_digits(word) {
-        let number = number_of(16, digits)?;
-        return Ok(Token::Number(number));
+    match hexadecimal_digits(word) {
+        Some(digits) => number_of(16, digits),
+        None => number_of(10, word),
     }
-    let number = number_of(10, word)?;
-    Ok(Token::Number(number))
 }
 
 /// The digits behind `0x` or `0X`.
 fn hexadecimal_digits(word: &[u8]) -> Option<&[u8]>
-    ensures { IfSome result (λ digits. IsHexadecimal word.now digits.now) }
+    ensures found { IfSome result (λ digits. IsHexadecimal word.now digits.now) }
+    ensures none { IfNone result ((digits : List ℕ) → IsHexadecimal word.now digits → ⊥) }
 {
     let Some((zero, rest)) = word.split_first() else {
         return None;
@@ -43,8 +49,9 @@ fn hexadecimal_digits(word: &[u8]) -> Option<&[u8]>
 
 /// The number that digits of a base spell, of which there is one at least.
 fn number_of(base: u8, digits: &[u8]) -> Result<u32, Fault>
-    requires { base ≤ 16 }
-    ensures { IfOk result (SpellsDigits base digits.now) }
+    requires { (1 ≤ base) × (base ≤ 16) }
+    ensures found { IfOk result (SpellsDigits base digits.now) }
+    ensures refused { IfErr result (λ _. (number : ℕ) → number < 2 ^ 32 → SpellsDigits base digits.now number → ⊥) }
 {
     if digits.is_empty() {
         return Err(Fault::NotOfSubset);
@@ -59,7 +66,8 @@ fn number_of(base: u8, digits: &[u8]) -> Result<u32, Fault>
 }
 
 fn are_digits(base: u8, digits: &[u8]) -> bool
-    ensures { result ≡ true → All (λ digit. is_digit base digit ≡ true) digits.now }
+    ensures are { result ≡ true → All (λ digit. is_digit base digit ≡ true) digits.now }
+    ensures other { result ≡ false → All (λ digit. is_digit base digit ≡ true) digits.now → ⊥ }
 {
     for digit in digits {
         if !is_digit(base, *digit) {
@@ -71,8 +79,9 @@ fn are_digits(base: u8, digits: &[u8]) -> bool
 
 /// The number that digits write, if it has 32 bits.
 fn number_after(base: u8, digits: &[u8]) -> Option<u32>
-    requires { base ≤ 16 }
-    ensures { IfSome result (λ number. number ≡ number_after base 0 digits.now) }
+    requires { (1 ≤ base) × (base ≤ 16) }
+    ensures found { IfSome result (λ number. number ≡ number_after base 0 digits.now) }
+    ensures none { IfNone result (2 ^ 32 ≤ number_after base 0 digits.now) }
 {
     let mut number = 0;
     for digit in digits {
@@ -87,7 +96,8 @@ fn number_after(base: u8, digits: &[u8]) -> Option<u32>
 /// The number with one digit more.
 fn with_digit(base: u8, number: u32, digit: u8) -> Option<u32>
     requires { base ≤ 16 }
-    ensures { IfSome result (λ more. more ≡ number * base + digit_value digit) }
+    ensures found { IfSome result (λ more. more ≡ number * base + digit_value digit) }
+    ensures none { IfNone result (2 ^ 32 ≤ number * base + digit_value digit) }
 {
     let more = u64::from(number) * u64::from(base) + u64::from(digit_value(digit));
     if more > u64::from(u32::MAX) {

@@ -1,5 +1,8 @@
 //! Why a text is refused.
 
+ghost use Rattle.std.specs.Prelude.{◌≡◌};
+ghost use Rattle.litmus_words.specs.declared.refused.Stop.TheVariants as kind;
+
 use crate::place::Place;
 use arrayvec::ArrayString;
 use litmus_tests::test::{MOST_LOCATIONS, MOST_NESTED, MOST_OBSERVED, MOST_STEPS, MOST_TERMS};
@@ -211,12 +214,16 @@ pub enum Stop {
 }
 
 impl From<AllocError> for Stop {
+    ghost from_gives = { λ _ stop. stop ≡ kind.Memory };
+
     fn from(_error: AllocError) -> Self {
         Stop::Memory
     }
 }
 
 impl<T: Drop> From<AllocFailed<T>> for Stop {
+    ghost from_gives = { λ _ stop. stop ≡ kind.Memory };
+
     fn from(_error: AllocFailed<T>) -> Self {
         Stop::Memory
     }
@@ -224,7 +231,9 @@ impl<T: Drop> From<AllocFailed<T>> for Stop {
 
 impl Stop {
     /// The fault at this byte.
-    pub fn at(at: usize, fault: Fault) -> Stop {
+    pub fn at(at: usize, fault: Fault) -> Stop
+        ensures { result ≡ kind.Fault at fault }
+    {
         Stop::Fault { at, fault }
     }
 }

@@ -1,6 +1,7 @@
 //! The words of a text.
 
 ghost use Rattle.std.specs.Prelude.{◌≡◌, ◌≢◌, ◌⊎◌, [], true, false, slice_range};
+ghost use Rattle.litmus_words.specs.Bytes.{bytes_in, same_bytes};
 ghost use Rattle.litmus_words.specs.declared.word.Token.TheVariants as token;
 
 use crate::mnemonic::Mnemonic;
@@ -83,12 +84,23 @@ pub struct Word {
 
 /// The bytes of a word; none where it isn't one of the text.
 pub fn bytes_of(text: &[u8], word: Word) -> &[u8]
-    ensures { (result.now ≡ []) ⊎ (result.now ≡ slice_range text.now word.start word.end) }
+    ensures inside { (result.now ≡ []) ⊎ (result.now ≡ slice_range text.now word.start word.end) }
+    ensures exact { result.now ≡ bytes_in text.now word }
 {
-    match text.get(word.start..word.end) {
-        Some(bytes) => bytes,
-        None => &[],
+    if word.end < word.start {
+        return &[];
     }
+    if text.len() < word.end {
+        return &[];
+    }
+    &text[word.start..word.end]
+}
+
+/// Whether two words of a text have the same bytes.
+pub fn same_bytes(text: &[u8], first: Word, second: Word) -> bool
+    ensures { result ≡ same_bytes text.now first second }
+{
+    bytes_of(text, first) == bytes_of(text, second)
 }
 
 /// Whether the word is this mark.

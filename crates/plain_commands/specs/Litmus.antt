@@ -11,6 +11,7 @@ use Rattle.litmus_tests.specs.declared.test.LitmusTest.{LitmusTest}
 use Rattle.litmus_tests.specs.{WellFormed.IsWellFormed, Conditions.holding}
 use Rattle.litmus_words.specs.Places.{IsPlaceIn}
 use Rattle.litmus_files.specs.File.{test_file}
+use Rattle.litmus_reading.specs.Texts.{IsTextOf}
 use Rattle.litmus_images.specs.{Image.IsLitmusImage, Watching.registers_observed, Watching.words_observed}
 use Rattle.litmus_text.specs.States.{states_text, states_in}
 use Rattle.sim_inputs.specs.declared.line.LitmusCommand.{LitmusCommand}
@@ -86,10 +87,11 @@ abbrev pub TestComesTo : LitmusTest → Settings → LitmusCommand → (List ℕ
 TestComesTo test settings command Put old new status =
     PrintsAllStates test settings command Put old new status ⊎ PrintsIncompleteTest test command Put old new status
 
--- So it does with the test that was read, with the settings for it.
-pub record LitmusComesTo (settings : Settings) (command : LitmusCommand) (Put : List ℕ → Type 0)
+-- So it does with the test that the text is, with the settings for it.
+pub record LitmusComesTo (text : List ℕ) (settings : Settings) (command : LitmusCommand) (Put : List ℕ → Type 0)
     (old new : Option (List ℕ)) (exit_status : ℕ) : Type 0 where
   pub test : LitmusTest
+  pub is_text : IsTextOf text test
   pub well_formed : IsWellFormed test
   pub comes : TestComesTo test (settings_for test settings) command Put old new exit_status
 
@@ -130,7 +132,8 @@ abbrev pub IsTestRefusal : LitmusTest → Settings → LitmusCommand → Refused
 IsTestRefusal test settings command why = IsStatesRefusal command why
     ⊎ OfStates test (λ image listed. IsStateRefusal settings image test command listed why)
 
--- When each refusal comes: the text is looked at first.
+-- When each refusal comes: the text is looked at first, and behind it the test that it is.
 abbrev pub IsLitmusRefusal : List ℕ → Settings → LitmusCommand → Refused → Type 0
 IsLitmusRefusal text settings command why = IsTextRefusal text why
-    ⊎ ((test : LitmusTest) × IsWellFormed test × IsTestRefusal test (settings_for test settings) command why)
+    ⊎ ((test : LitmusTest) × IsTextOf text test × IsWellFormed test
+    × IsTestRefusal test (settings_for test settings) command why)

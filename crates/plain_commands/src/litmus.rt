@@ -47,7 +47,7 @@ pub fn perform_litmus<G: Gate, S: EndFiles, W: Write>(
     requires works { S.has_failed file.old ≡ false }
     requires finished { S.is_finished file.old ≡ true }
     ensures refused { IfErr result (IsLitmusRefusal text.now settings command.now) }
-    ensures ended { IfOk result (LitmusComesTo settings command.now
+    ensures ended { IfOk result (LitmusComesTo text.now settings command.now
         (HasPut S.written S.has_failed file.old file.new) (W.contents out.old) (W.contents out.new)) }
     ensures unwanted { is_some (written_for_test command.now) ≡ false → file.new ≡ file.old }
     ensures unbroken { OnOk result (S.has_failed file.new ≡ false) }
@@ -67,9 +67,9 @@ pub fn perform_litmus<G: Gate, S: EndFiles, W: Write>(
 }
 
 /// Writes every final state of a litmus test, whether they are as it asks, whether its harts may wait for ever,
-/// and, where that is wanted, why its condition holds of none. The states are the outcomes of the test's image, for as many harts as it
-/// has. The image goes into `file` before the states are looked for, where it is wanted; a picture of why
-/// the condition holds of none, and what is wanted of the order of a state, before anything is printed.
+/// and, where that is wanted, why its condition holds of none. The states are the outcomes of the test's image, for as
+/// many harts as it has. The image goes into `file` before the states are looked for, where it is wanted; a picture of
+/// why the condition holds of none, and what is wanted of the order of a state, before anything is printed.
 ///
 /// Answers the exit status: 0, or 3 where there are more states than were to be looked at; then only that
 /// is said, and no order is written. `NothingToDraw` is answered where a picture is wanted and the condition holds of a

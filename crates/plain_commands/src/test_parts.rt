@@ -4,6 +4,7 @@
 ghost use Rattle.std.specs.Prelude.{◌≡◌, IfOk, IfErr, OnOk, is_some, true, false};
 ghost use Rattle.event_text.specs.Sinking.{HasPut};
 ghost use Rattle.litmus_files.specs.File.{test_file};
+ghost use Rattle.litmus_reading.specs.Texts.{IsTextOf};
 ghost use Rattle.litmus_tests.specs.WellFormed.{IsWellFormed};
 ghost use Rattle.plain_commands.specs.{Litmus.IsTextRefusal, Outcomes.IsWant};
 ghost use Rattle.plain_commands.specs.StateOrders.{settings_for};
@@ -29,6 +30,7 @@ pub fn settings_for(own: Settings, test: &LitmusTest) -> Settings
 /// The test that a text is.
 pub fn test_of(text: &[u8], alloc: Global) -> Result<LitmusTest, Refused>
     ensures sound { IfOk result IsWellFormed }
+    ensures read { IfOk result (IsTextOf text.now) }
     ensures refused { IfErr result (IsTextRefusal text.now) }
 {
     match read_litmus(text, alloc) {

@@ -9,7 +9,7 @@ returns-in-Some-clause-refused g c =
 
 pub returns-in-Some-clause-ended : goal.returns-in-Some-clause-ended
 returns-in-Some-clause-ended g c =
-    run_ended c.args.litmus.now.run c.in-Some.times c.in-Some.is c.args.settings c.args.litmus.now
+    run_ended c.args.litmus.now.run c.in-Some.times c.in-Some.is c.args.text.now c.args.settings c.args.litmus.now
     (HasPut g.S.Sink.written g.S.Sink.has_failed c.args.context.now.files c.perform_test_runs.new.context.files)
     (g.W.Write.contents c.args.context.now.out) (g.W.Write.contents c.perform_test_runs.new.context.out)
     c.perform_test_runs.result c.perform_test_runs.ensures.ended

@@ -15,6 +15,7 @@ returns-in-Err-clause-refused g c = inl c.in-Err.ensures.refused
 pub returns-clause-refused : goal.returns-clause-refused
 returns-clause-refused g c = inr (
   c.in-Ok.test,
+  c.in-Ok.ensures.read,
   c.in-Ok.ensures.sound,
   subst (λ (s : Settings). IsRunsRefusal s c.in-Err-run_test.refused) c.settings_for-settings.ensures
       c.in-Err-run_test.ensures.refused,
@@ -27,6 +28,7 @@ returns-clause-unwanted g c none =
 pub returns-in-Ok-run_test-clause-ended : goal.returns-in-Ok-run_test-clause-ended
 returns-in-Ok-run_test-clause-ended g c = record {
   test = c.in-Ok.test;
+  is_text = c.in-Ok.ensures.read;
   well_formed = c.in-Ok.ensures.sound;
   comes = subst (λ (s : Settings). RunsComeTo c.in-Ok.test s c.args.command.now c.args.times
       (HasPut g.S.Sink.written g.S.Sink.has_failed c.args.context.now.files c.run_test.new.context.files)

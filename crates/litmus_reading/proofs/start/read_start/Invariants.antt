@@ -1,5 +1,13 @@
-use Rattle.std.proofs.Common.{length}
+use Rattle.std.proofs.Common.{List, [], ◌++◌, length}
+use Rattle.litmus_words.specs.Tokens.{tokens}
+use Rattle.litmus_reading.specs.declared.start.Entry.{Entry}
+use Rattle.litmus_reading.specs.Starts.{AreEntries}
 use Rattle.litmus_reading.proofs.start.read_start.Given as goal
+
+-- what the rest is are, behind what has been read, all entries
+abbrev pub invariant-loop-rest : goal.invariant-loop-rest
+invariant-loop-rest l = (others : List Entry) → AreEntries l.entries.items others (tokens l.rest)
+    → AreEntries [] (l.entries.items ++ others) (tokens l.words)
 
 abbrev pub decreases-loop-rest : goal.decreases-loop-rest
 decreases-loop-rest l = length l.rest

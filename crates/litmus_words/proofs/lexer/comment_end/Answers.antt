@@ -1,5 +1,6 @@
-use Rattle.std.proofs.Common.{◌<◌, ◌+◌, arith}
-use Rattle.litmus_words.specs.Gaps.{Closes, Opens, opens, passes}
+use Rattle.std.proofs.Common.{◌<◌, ◌+◌, arith, sym}
+use Rattle.litmus_words.specs.Comments.{Closes, Opens, opens, passes}
+use Rattle.litmus_words.proofs.Ending.{behind_closing, behind_last, behind_opening, behind_other, room_of_rest}
 use Rattle.litmus_words.proofs.Standing.{closes_one, ends_rest}
 use Rattle.litmus_words.proofs.lexer.comment_end.Goals as goal
 use Rattle.litmus_words.proofs.lexer.comment_end.Goals.{else-text-at-eq40-via-then-text-at-eq40+else-text-at-eq42, else-text-at-eq40-via-else-text-at-eq40}
@@ -13,6 +14,8 @@ loop-at-preserved-then-text-at-eq42 c = record {
   open_ones = omega arith;
   rest = λ to rest. c.loop-at.invariant.rest to
       (opens c.loop-at.depth c.loop-at.at to (c.if-text-at-eq40.true, c.if-text-at-eq42.true) rest);
+  only = λ to rest. behind_opening c.args.text.now c.loop-at.depth c.loop-at.at to
+      (c.if-text-at-eq40.true, c.if-text-at-eq42.true) (c.loop-at.invariant.only to rest);
 }
 
 pub returns-then-depth-le1-clause-rest : goal.returns-then-depth-le1-clause-rest
@@ -32,6 +35,8 @@ loop-at-preserved-then-text-at-eq41 c =
       rest = λ to rest. c.loop-at.invariant.rest to
           (closes_one c.args.text.now c.loop-at.depth c.loop-at.at to more
           (c.if-text-at-eq42-2.true, c.if-text-at-eq41.true) rest);
+      only = λ to rest. behind_closing c.args.text.now c.loop-at.depth c.loop-at.at to more
+          (c.if-text-at-eq42-2.true, c.if-text-at-eq41.true) (c.loop-at.invariant.only to rest);
     }
 
 pub loop-at-preserved : goal.loop-at-preserved
@@ -51,4 +56,16 @@ loop-at-preserved c =
       open_ones = c.loop-at.invariant.open_ones;
       rest = λ to rest. c.loop-at.invariant.rest to
           (passes c.loop-at.depth c.loop-at.at to no_opening no_closing rest);
+      only = λ to rest. behind_other c.args.text.now c.loop-at.depth c.loop-at.at to no_opening no_closing
+          (c.loop-at.invariant.only to rest);
     }
+
+pub returns-then-depth-le1-clause-only : goal.returns-then-depth-le1-clause-only
+returns-then-depth-le1-clause-only c = λ to rest.
+    sym (behind_last c.args.text.now c.loop-at.depth c.loop-at.at to c.if-depth-le1.true
+    (c.if-text-at-eq42-2.true, c.if-text-at-eq41.true) (c.loop-at.invariant.only to rest))
+
+pub returns-clause-only : goal.returns-clause-only
+returns-clause-only c = λ to rest.
+    let room = room_of_rest c.args.text.now c.loop-at.depth c.loop-at.at to (c.loop-at.invariant.only to rest) in
+    absurd (omega (arith, room, c.loop-at-test.false, c.loop-at.invariant.inside))

@@ -11,6 +11,7 @@ returns-in-Err-clause-refused g c = inl c.in-Err.ensures.refused
 pub returns-clause-refused : goal.returns-clause-refused
 returns-clause-refused g c = inr (
   c.in-Ok.test,
+  c.in-Ok.ensures.read,
   c.in-Ok.ensures.sound,
   subst (λ (s : Settings). IsTestRefusal c.in-Ok.test s c.args.command.now c.in-Err-perform_test.refused)
       c.settings_for-settings.ensures c.in-Err-perform_test.ensures.refused,
@@ -19,6 +20,7 @@ returns-clause-refused g c = inr (
 pub returns-in-Ok-perform_test-clause-ended : goal.returns-in-Ok-perform_test-clause-ended
 returns-in-Ok-perform_test-clause-ended g c = record {
   test = c.in-Ok.test;
+  is_text = c.in-Ok.ensures.read;
   well_formed = c.in-Ok.ensures.sound;
   comes = subst (λ (s : Settings). TestComesTo c.in-Ok.test s c.args.command.now
       (HasPut g.S.Sink.written g.S.Sink.has_failed c.args.file.now c.perform_test.new.file)

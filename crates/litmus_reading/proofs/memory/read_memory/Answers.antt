@@ -1,0 +1,10 @@
+use Rattle.litmus_reading.proofs.Remembered.{words_all, words_told}
+use Rattle.litmus_reading.proofs.memory.read_memory.Goals as goal
+
+pub loop-name-preserved : goal.loop-name-preserved
+loop-name-preserved c =
+    words_told _ _ _ _ _ _ _ c.loop-name-test.true c.loop-name.invariant c.in_ok-add_words.ensures
+
+pub returns : goal.returns
+returns c =
+    words_all _ _ _ _ _ c.loop-name-test.false c.loop-name.invariant
