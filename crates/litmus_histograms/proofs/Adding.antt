@@ -58,7 +58,9 @@ module _ (e : Ending) (n : ℕ) where
   no_hit [] none = refl
   no_hit (told ∷ listed) none = elim (cases_Bool (same_end e told.ending)) [
     | inl same ↦ absurd (false≢true (sym (rw same at none)))
-    | inr other ↦ rw other (no_hit listed (rw other at none))
+    | inr other ↦
+        let rest = no_hit listed (rw other at none) in
+        rw other (omega (arith, rest))
   ]
 
   others : (told : Told) (listed : List Told) → AllPairs (λ (a b : Told). a.ending ≢ b.ending) (told ∷ listed)
@@ -86,7 +88,11 @@ module _ (e : Ending) (n : ℕ) where
     | inl same ↦
         let none = no_hit listed (others told listed apart same) in
         rw same (omega (arith, none))
-    | inr other ↦ rw other (one_hit listed (λ i j d. apart (suc i) (suc j) d) (rw other at some))
+    | inr other ↦
+        let apart_here : AllPairs (λ (a b : Told). a.ending ≢ b.ending) listed =
+            λ i j d less below. apart (suc i) (suc j) d (omega (arith, less)) (omega (arith, below)) in
+        let rest = one_hit listed apart_here (rw other at some) in
+        rw other (omega (arith, rest))
   ]
 
 module _ (test : LitmusTest) (listed : List Told) (once : AllPairs (λ (a b : Told). a.ending ≢ b.ending) listed)
