@@ -90,7 +90,7 @@ module _ (e : Ending) (n : ℕ) where
         rw same (omega (arith, none))
     | inr other ↦
         let apart_here : AllPairs (λ (a b : Told). a.ending ≢ b.ending) listed =
-            λ i j d less below. apart (suc i) (suc j) d (omega (arith, less)) (omega (arith, below)) in
+        λ i j d less below. apart (suc i) (suc j) d (omega (arith, less)) (omega (arith, below)) in
         let rest = one_hit listed apart_here (rw other at some) in
         rw other (omega (arith, rest))
   ]
