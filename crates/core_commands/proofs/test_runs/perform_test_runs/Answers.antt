@@ -7,7 +7,7 @@ use Rattle.core_commands.specs.TestRuns.{IsRunsRefusal, RunsComeTo}
 use Rattle.core_commands.proofs.test_runs.perform_test_runs.Goals as goal
 
 pub run_test-requires-clause-harts : goal.run_test-requires-clause-harts
-run_test-requires-clause-harts g c = ap (λ (s : Settings). s.config.harts) c.settings_for-settings.ensures
+run_test-requires-clause-harts g c κs outlive = ap (λ (s : Settings). s.config.harts) c.settings_for-settings.ensures
 
 pub returns-in-Err-clause-refused : goal.returns-in-Err-clause-refused
 returns-in-Err-clause-refused g c = inl c.in-Err.ensures.refused

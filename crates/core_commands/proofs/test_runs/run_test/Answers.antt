@@ -7,7 +7,7 @@ use Rattle.core_commands.proofs.OfTestRuns.{all_counted, more_counted, want_refu
 use Rattle.core_commands.proofs.test_runs.run_test.Goals as goal
 
 pub count_runs-requires-clause-there : goal.count_runs-requires-clause-there
-count_runs-requires-clause-there g c =
+count_runs-requires-clause-there g c κs outlive =
     let there = c.in-Ok-find_shown.ensures.present in
     record {
       registers = subst (λ (n : ℕ). AreThere n c.watch_of-watch.result) (c.harts_of-harts.ensures ∙ sym c.requires.harts)
