@@ -14,7 +14,7 @@ returns-clause-counted g c =
     let over = counted c.args.test.now c.args.settings.now c.args.image.now c.args.watch.now _ c.args.outcomes.now.listed _
     c.in-Ok.tally _ _ c.in-Ok.ensures.tallied c.print_histogram.result c.print_histogram.ensures.printed
     c.print_histogram.ensures.status in
-    let many : c.runs_of-count.result ≡ runs_of c.args.times = c.runs_of-count.ensures in
+    let many : c.runs_of-count.result ≡ runs_of c.args.times = c.runs_of-count.ensures.asked in
     let out : g.W.Write.contents c.tally_runs.new.context.out ≡ g.W.Write.contents c.args.context.now.out =
     ap g.W.Write.contents c.in-Ok.ensures.unprinted in
     rw (← many, ← out) over
