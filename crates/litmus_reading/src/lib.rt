@@ -13,8 +13,9 @@
 //! locations and arrays that the braces declare and where they stand (`Declarations`, `Names`), what they and the
 //! registers hold at the start (`Starts`, `Memory`), the instructions of each hart, with its labels (`Rows`, `Threads`,
 //! `Instructions`, `Fences`), the filter and the question (`Questions`, `Grammar`), and what is looked at (`Looked`). What
-//! is refused is refused at a place of the text. Only tested: that nothing is refused that is a test, which fault is told
-//! where, and that numbers and addresses fit the types for which they are given.
+//! is refused is refused at a place of the text. Only tested: to which of several labels a branch goes (of its word the
+//! kind alone is told) and the sets of a fence, that nothing is refused that is a test, which fault is told where, and
+//! that numbers and addresses fit the types for which they are given.
 //!
 //! Read in this order, behind `litmus_words`: `head` (what stands before the braces), `declarations` (of which types
 //! locations are), `locations` (which there are, and where), `fitting` (what fits in a type), `contents` (what an entry
