@@ -1,7 +1,7 @@
 -- Rows and cells, by cuts at their marks.
 use Rattle.std.proofs.Common.{◌≡◌, ◌≢◌, ℕ, zero, suc, ◌+◌, ◌-◌, ◌<◌, Bool, true, false, if◌then◌else◌, List, [], ◌∷◌, ◌++◌, length, map, get_or, drop}
 use Rattle.std.proofs.Common.{refl, sym, ap, ◌∙◌, subst, inl, inr, arith, true≢false, pos_of_ne-zero}
-use Rattle.std.specs.Prelude.{◌⊎◌, slice_index_or}
+use Rattle.std.specs.Prelude.{slice_index_or}
 use Rattle.std.proofs.lemmas.List.Elements.{All-head, All-tail}
 use Rattle.litmus_words.specs.declared.word.Word.{Word}
 use Rattle.litmus_words.specs.declared.word.Token.{Token}

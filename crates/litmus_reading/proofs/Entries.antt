@@ -1,5 +1,5 @@
 -- Entries of the start, put together from what was read of them.
-use Rattle.std.proofs.Common.{◌≡◌, ℕ, suc, ◌+◌, ◌-◌, ◌<◌, ◌≤◌, ◌==◌, ◌&&◌, Bool, true, false, if◌then◌else◌, List, [], ◌∷◌, ◌++◌, Option, Some, None, length, drop, get_or}
+use Rattle.std.proofs.Common.{◌≡◌, ℕ, suc, ◌+◌, ◌-◌, ◌<◌, ◌≤◌, ◌==◌, ◌&&◌, Bool, true, false, if◌then◌else◌, List, [], ◌∷◌, ◌++◌, Option, Some, None, length}
 use Rattle.std.proofs.Common.{refl, sym, ap, ◌∙◌, subst, inl, inr, arith, append_assoc, append-nil, length-append, pos_of_ne-zero}
 use Rattle.litmus_tests.specs.declared.value.Value.{Value}
 use Rattle.litmus_tests.specs.declared.value.Value.TheVariants as value
@@ -8,17 +8,17 @@ use Rattle.litmus_words.specs.declared.word.{Word.Word, Declared.Declared}
 use Rattle.litmus_words.specs.declared.word.Token.{Token}
 use Rattle.litmus_words.specs.declared.word.Token.TheVariants.{Register as register_token, Location as location_token, Number, Mark}
 use Rattle.litmus_words.specs.declared.word.Mark.TheVariants as mark
-use Rattle.litmus_words.specs.Parts.{index_tokens, ValueTaken}
+use Rattle.litmus_words.specs.Parts.{index_tokens}
 use Rattle.litmus_words.specs.Tokens.{Takes, tokens}
-use Rattle.litmus_words.proofs.Taking.{one_behind_another}
-use Rattle.litmus_reading.proofs.Naming.{pushed}
+use Rattle.litmus_words.proofs.Taking.{one_behind_another, takes_nothing}
 use Rattle.litmus_reading.specs.declared.contents.Given.{Given}
 use Rattle.litmus_reading.specs.declared.start.{HartStart.HartStart, Initial.Initial}
 use Rattle.litmus_reading.specs.declared.start.Entry.{Entry}
 use Rattle.litmus_reading.specs.declared.start.Entry.TheVariants.{Register, Location}
+use Rattle.litmus_reading.specs.Fitting.{GivenValueTaken}
 use Rattle.litmus_reading.specs.Names.{elements_of}
 use Rattle.litmus_reading.specs.Starts.{AddedTaken, AreEntries, ContentsTaken, CountTaken, ElementsTaken, EntryTaken, GivenTaken, NameTaken, RegisterTaken}
-use Rattle.litmus_reading.specs.Starts.{entries_none, entries_last, entries_more, placed, SpellsFilled, SpellsArray, SpellsElements}
+use Rattle.litmus_reading.specs.Starts.{entries_none, entries_last, entries_more, placed, SpellsElements}
 use Rattle.litmus_reading.specs.Starts.{start_in, initial_in, start_at, starts_from}
 
 -- an entry that none is, in the same entries
@@ -26,15 +26,13 @@ pub none_of_same : (looked : List Entry → Option Value) (items slice : List En
     → slice ≡ items → before ≡ looked slice → before ≡ None → looked items ≡ None
 none_of_same looked items slice before same is none = ap looked (sym same) ∙ sym is ∙ none
 
-pub takes_nothing : (words : List Word) → Takes words [] words
-takes_nothing words = record { spelled = refl; shorter = omega arith }
-
-pub of_register : (words a b c d rest : List Word) (start : HartStart) → Takes words (Number start.hart ∷ []) a
-    → Takes a (Mark mark.Colon ∷ []) b → Takes b (register_token start.register ∷ []) c
-    → Takes c (Mark mark.Equals ∷ []) d → ValueTaken d start.value rest → RegisterTaken words start rest
-of_register words a b c d rest start h colon r equals v = record {
+pub of_register : (given : Given) (words a b c d rest : List Word) (start : HartStart)
+    → Takes words (Number start.hart ∷ []) a → Takes a (Mark mark.Colon ∷ []) b
+    → Takes b (register_token start.register ∷ []) c → 0 < start.register → Takes c (Mark mark.Equals ∷ []) d
+    → GivenValueTaken given d start.value rest → RegisterTaken given words start rest
+of_register given words a b c d rest start h colon r other equals v = record {
   text = Number start.hart ∷ Mark mark.Colon ∷ register_token start.register ∷ Mark mark.Equals ∷ v.text;
-  spells = record { number = v.text; spelled = refl; holds = v.spells };
+  spells = record { number = v.text; spelled = refl; other = other; holds = (v.spells, v.fits) };
   takes = one_behind_another words a rest (Number start.hart ∷ [])
       (Mark mark.Colon ∷ register_token start.register ∷ Mark mark.Equals ∷ v.text) h
       (one_behind_another a b rest (Mark mark.Colon ∷ [])
@@ -43,10 +41,10 @@ of_register words a b c d rest start h colon r equals v = record {
       (one_behind_another c d rest (Mark mark.Equals ∷ []) v.text equals v.takes)));
 }
 
-pub register_added : (words rest : List Word) (before after : List Entry) (start : HartStart)
-    → RegisterTaken words start rest → start_in before start.hart start.register ≡ None
-    → after ≡ before ++ Register start ∷ [] → AddedTaken words before after rest
-register_added words rest before after start taken once is = record {
+pub register_added : (given : Given) (words rest : List Word) (before after : List Entry) (start : HartStart)
+    → RegisterTaken given words start rest → start_in before start.hart start.register ≡ None
+    → after ≡ before ++ Register start ∷ [] → AddedTaken given words before after rest
+register_added given words rest before after start taken once is = record {
   text = taken.text;
   entries = Register start ∷ [];
   spells = inl (record { start = start; spells = taken.spells; once = once; are = refl });
@@ -74,10 +72,10 @@ bracketed_name words a b rest declared left name right = record {
       (one_behind_another a b rest (location_token declared ∷ []) (Mark mark.RightBracket ∷ []) name right);
 }
 
-pub location_added : (words between rest : List Word) (before after : List Entry) (declared : Declared)
-    → NameTaken words declared between → ContentsTaken declared between before after rest
-    → initial_in before declared.first ≡ None → AddedTaken words before after rest
-location_added words between rest before after declared name held once = record {
+pub location_added : (given : Given) (words between rest : List Word) (before after : List Entry)
+    (declared : Declared) → NameTaken words declared between → ContentsTaken given declared between before after rest
+    → initial_in before declared.first ≡ None → AddedTaken given words before after rest
+location_added given words between rest before after declared name held once = record {
   text = name.text ++ held.text;
   entries = placed declared.first held.values;
   spells = inr (record {
@@ -96,22 +94,24 @@ location_added words between rest before after declared name held once = record 
 }
 
 -- what is no array
-pub one_value : (declared : Declared) (words behind rest : List Word) (before after : List Entry) (held : Value)
-    → declared.is_array ≡ false → Takes words (Mark mark.Equals ∷ []) behind → ValueTaken behind held rest
+pub one_value : (given : Given) (declared : Declared) (words behind rest : List Word) (before after : List Entry)
+    (held : Value) → declared.is_array ≡ false → Takes words (Mark mark.Equals ∷ []) behind
+    → GivenValueTaken given behind held rest
     → after ≡ before ++ Location (record { location = declared.first; value = held }) ∷ []
-    → ContentsTaken declared words before after rest
-one_value declared words behind rest before after held alone equals v is = record {
+    → ContentsTaken given declared words before after rest
+one_value given declared words behind rest before after held alone equals v is = record {
   text = Mark mark.Equals ∷ v.text;
   values = held ∷ [];
-  spells = inl (alone, inr (v.text, held, refl, v.spells, refl));
+  spells = inl (alone, inr (v.text, held, refl, (v.spells, v.fits), refl));
   added = is;
   takes = one_behind_another words behind rest (Mark mark.Equals ∷ []) v.text equals v.takes;
 }
 
-pub no_value : (declared : Declared) (words : List Word) (before after : List Entry) → declared.is_array ≡ false
+pub no_value : (given : Given) (declared : Declared) (words : List Word) (before after : List Entry)
+    → declared.is_array ≡ false
     → after ≡ before ++ Location (record { location = declared.first; value = value.Number 0 }) ∷ []
-    → ContentsTaken declared words before after words
-no_value declared words before after alone is = record {
+    → ContentsTaken given declared words before after words
+no_value given declared words before after alone is = record {
   text = [];
   values = value.Number 0 ∷ [];
   spells = inl (alone, inl (refl, refl));
@@ -130,11 +130,11 @@ counted words a b rest count some left number right = record {
       (one_behind_another a b rest (Number count ∷ []) (Mark mark.RightBracket ∷ []) number right);
 }
 
-pub empty_array : (declared : Declared) (words rest : List Word) (before after : List Entry) → declared.is_array ≡ true
-    → CountTaken words rest
+pub empty_array : (given : Given) (declared : Declared) (words rest : List Word) (before after : List Entry)
+    → declared.is_array ≡ true → CountTaken words rest → given.is_pointer ≡ false
     → after ≡ before ++ Location (record { location = declared.first; value = value.Number 0 }) ∷ []
-    → ContentsTaken declared words before after rest
-empty_array declared words rest before after array count is = record {
+    → ContentsTaken given declared words before after rest
+empty_array given declared words rest before after array count plain is = record {
   text = count.text ++ [];
   values = value.Number 0 ∷ [];
   spells = inr (
@@ -143,6 +143,7 @@ empty_array declared words rest before after array count is = record {
       count = count.text;
       held = [];
       spelled = refl;
+      plain = plain;
       counted = count.spells;
       holds = inl (refl, refl);
     },
@@ -151,11 +152,11 @@ empty_array declared words rest before after array count is = record {
   takes = subst (λ (t : List Token). Takes words t rest) (sym (append-nil count.text)) count.takes;
 }
 
-pub filled_array : (declared : Declared) (words a b c rest : List Word) (before after : List Entry)
-    → declared.is_array ≡ true → CountTaken words a → Takes a (Mark mark.Equals ∷ []) b
-    → Takes b (Mark mark.LeftBrace ∷ []) c → ElementsTaken declared c before after rest
-    → ContentsTaken declared words before after rest
-filled_array declared words a b c rest before after array count equals left held = record {
+pub filled_array : (given : Given) (declared : Declared) (words a b c rest : List Word) (before after : List Entry)
+    → declared.is_array ≡ true → CountTaken words a → given.is_pointer ≡ false → Takes a (Mark mark.Equals ∷ []) b
+    → Takes b (Mark mark.LeftBrace ∷ []) c → ElementsTaken given declared c before after rest
+    → ContentsTaken given declared words before after rest
+filled_array given declared words a b c rest before after array count plain equals left held = record {
   text = count.text ++ Mark mark.Equals ∷ Mark mark.LeftBrace ∷ held.text;
   values = held.values;
   spells = inr (
@@ -164,6 +165,7 @@ filled_array declared words a b c rest before after array count equals left held
       count = count.text;
       held = Mark mark.Equals ∷ Mark mark.LeftBrace ∷ held.text;
       spelled = refl;
+      plain = plain;
       counted = count.spells;
       holds = inr (record { inner = held.text; spelled = refl; elements = held.spells; few = held.few });
     },
@@ -175,16 +177,17 @@ filled_array declared words a b c rest before after array count equals left held
 }
 
 -- so many elements are read, and what the rest spells is behind them
-pub record ReadsOn (declared : Declared) (words : List Word) (before now : List Entry) (count : ℕ) (rest : List Word)
-    : Type 0 where
+pub record ReadsOn (given : Given) (declared : Declared) (words : List Word) (before now : List Entry) (count : ℕ)
+    (rest : List Word) : Type 0 where
   pub values : List Value
   pub many : length values ≡ count
   pub added : now ≡ before ++ placed declared.first values
-  pub on : (more : List Value) (text : List Token) (end : List Word) → SpellsElements text more → Takes rest text end
-      → (all : List Token) × SpellsElements all (values ++ more) × Takes words all end
+  pub on : (more : List Value) (text : List Token) (end : List Word) → SpellsElements given text more
+      → Takes rest text end → (all : List Token) × SpellsElements given all (values ++ more) × Takes words all end
 
 placed_more : (first : ℕ) (values : List Value) (held : Value)
-    → placed first (values ++ held ∷ []) ≡ placed first values ++ Location (record { location = first + length values; value = held }) ∷ []
+    → placed first (values ++ held ∷ [])
+    ≡ placed first values ++ Location (record { location = first + length values; value = held }) ∷ []
 placed_more first [] held =
     let none : first ≡ first + 0 = omega arith in
     ap (λ (n : ℕ). Location (record { location = n; value = held }) ∷ []) none
@@ -194,17 +197,17 @@ placed_more first (v ∷ values) held =
     (placed_more (first + 1) values held
     ∙ ap (λ (n : ℕ). placed (first + 1) values ++ Location (record { location = n; value = held }) ∷ []) one)
 
-pub reads_none : (declared : Declared) (words : List Word) (before : List Entry)
-    → ReadsOn declared words before before 0 words
-reads_none declared words before = record {
+pub reads_none : (given : Given) (declared : Declared) (words : List Word) (before : List Entry)
+    → ReadsOn given declared words before before 0 words
+reads_none given declared words before = record {
   values = [];
   many = refl;
   added = sym (append-nil before);
   on = λ more text end spells takes. (text, spells, takes);
 }
 
-added_more : (declared : Declared) (before now after : List Entry) (values : List Value) (count index : ℕ) (held : Value)
-    → length values ≡ count → now ≡ before ++ placed declared.first values → index ≡ declared.first + count
+added_more : (declared : Declared) (before now after : List Entry) (values : List Value) (count index : ℕ)
+    (held : Value) → length values ≡ count → now ≡ before ++ placed declared.first values → index ≡ declared.first + count
     → after ≡ now ++ Location (record { location = index; value = held }) ∷ []
     → after ≡ before ++ placed declared.first (values ++ held ∷ [])
 added_more declared before now after values count index held many so_far at is =
@@ -214,32 +217,34 @@ added_more declared before now after values count index held many so_far at is =
     (at ∙ ap (λ (n : ℕ). declared.first + n) (sym many))
     ∙ ap (λ (t : List Entry). before ++ t) (sym (placed_more declared.first values held))
 
-pub reads_more : (declared : Declared) (words rest behind next : List Word) (before now after : List Entry)
-    (count index : ℕ) (held : Value) → ReadsOn declared words before now count rest → ValueTaken rest held behind
+pub reads_more : (given : Given) (declared : Declared) (words rest behind next : List Word)
+    (before now after : List Entry) (count index : ℕ) (held : Value)
+    → ReadsOn given declared words before now count rest → GivenValueTaken given rest held behind
     → Takes behind (Mark mark.Comma ∷ []) next → index ≡ declared.first + count
     → after ≡ now ++ Location (record { location = index; value = held }) ∷ []
-    → ReadsOn declared words before after (count + 1) next
-reads_more declared words rest behind next before now after count index held so_far v comma at is = record {
+    → ReadsOn given declared words before after (count + 1) next
+reads_more given declared words rest behind next before now after count index held so_far v comma at is = record {
   values = so_far.values ++ held ∷ [];
   many = length-append so_far.values (held ∷ []) ∙ ap (λ (n : ℕ). n + 1) so_far.many;
   added = added_more declared before now after so_far.values count index held so_far.many so_far.added at is;
   on = λ more text end spells takes.
       let all = so_far.on (held ∷ more) (v.text ++ Mark mark.Comma ∷ text) end
-      (v.text, Mark mark.Comma ∷ text, v.spells, refl, inr (text, refl, spells))
+      (v.text, Mark mark.Comma ∷ text, (v.spells, v.fits), refl, inr (text, refl, spells))
       (one_behind_another rest behind end v.text (Mark mark.Comma ∷ text) v.takes
       (one_behind_another behind next end (Mark mark.Comma ∷ []) text comma takes)) in
-      (all.0, subst (SpellsElements all.0) (sym (append_assoc so_far.values (held ∷ []) more)) all.1, all.2);
+      (all.0, subst (SpellsElements given all.0) (sym (append_assoc so_far.values (held ∷ []) more)) all.1, all.2);
 }
 
-pub reads_last : (declared : Declared) (words rest behind end : List Word) (before now after : List Entry)
-    (count most index : ℕ) (held : Value) → most ≡ elements_of declared → count < most
-    → ReadsOn declared words before now count rest
-    → ValueTaken rest held behind → Takes behind (Mark mark.RightBrace ∷ []) end → index ≡ declared.first + count
+pub reads_last : (given : Given) (declared : Declared) (words rest behind end : List Word)
+    (before now after : List Entry) (count most index : ℕ) (held : Value) → most ≡ elements_of declared → count < most
+    → ReadsOn given declared words before now count rest → GivenValueTaken given rest held behind
+    → Takes behind (Mark mark.RightBrace ∷ []) end → index ≡ declared.first + count
     → after ≡ now ++ Location (record { location = index; value = held }) ∷ []
-    → ElementsTaken declared words before after end
-reads_last declared words rest behind end before now after count most index held last inside so_far v closes at is =
+    → ElementsTaken given declared words before after end
+reads_last given declared words rest behind end before now after count most index held last inside so_far v
+    closes at is =
     let all = so_far.on (held ∷ []) (v.text ++ Mark mark.RightBrace ∷ []) end
-    (v.text, Mark mark.RightBrace ∷ [], v.spells, refl, inl (refl, refl))
+    (v.text, Mark mark.RightBrace ∷ [], (v.spells, v.fits), refl, inl (refl, refl))
     (one_behind_another rest behind end v.text (Mark mark.RightBrace ∷ []) v.takes closes) in
     let many : length (so_far.values ++ held ∷ []) ≡ count + 1 =
     length-append so_far.values (held ∷ []) ∙ ap (λ (n : ℕ). n + 1) so_far.many in
@@ -255,7 +260,7 @@ reads_last declared words rest behind end before now after count most index held
 
 -- an entry behind what may stand before it
 pub given_entry : (words behind rest : List Word) (before after : List Entry) (given : Given)
-    → GivenTaken words given behind → AddedTaken behind before after rest → EntryTaken words before after rest
+    → GivenTaken words given behind → AddedTaken given behind before after rest → EntryTaken words before after rest
 given_entry words behind rest before after given g u = record {
   text = g.text ++ u.text;
   entries = u.entries;

@@ -1,23 +1,19 @@
 -- What may stand before an entry, as the words begin with it.
-use Rattle.std.proofs.Common.{◌≡◌, Bool, true, false, if◌then◌else◌, List, [], ◌∷◌, ◌++◌, refl, sym, ap, ◌∙◌, subst, inl, inr, arith}
+use Rattle.std.proofs.Common.{◌≡◌, Bool, if◌then◌else◌, List, [], ◌∷◌, ◌++◌, refl, sym, subst, inl, inr}
 use Rattle.litmus_tests.specs.declared.number_type.NumberType.{NumberType}
 use Rattle.litmus_words.specs.declared.word.Word.{Word}
 use Rattle.litmus_words.specs.declared.word.Token.{Token}
 use Rattle.litmus_words.specs.declared.word.Token.TheVariants as token
 use Rattle.litmus_words.specs.declared.word.Mark.TheVariants as mark
-use Rattle.litmus_words.specs.Tokens.{Takes, tokens}
-use Rattle.litmus_words.proofs.Taking.{one_behind_another}
+use Rattle.litmus_words.specs.Tokens.{Takes}
+use Rattle.litmus_words.proofs.Taking.{begun, one_behind_another, takes_nothing}
 use Rattle.litmus_reading.specs.declared.contents.Given.{Given}
 use Rattle.litmus_reading.specs.Declarations.{begins, behind_one, is_star, is_type, type_before, type_of_token, untyped}
 use Rattle.litmus_reading.specs.Starts.{GivenTaken, SpellsStar, SpellsType}
-use Rattle.litmus_reading.proofs.Entries.{takes_nothing}
 
 one_taken : (word : Word) (words : List Word) (one : Token) → word.token ≡ one
     → Takes (word ∷ words) (one ∷ []) words
-one_taken word words one is = record {
-  spelled = ap (λ (t : Token). t ∷ tokens words) is;
-  shorter = omega arith;
-}
+one_taken word words one is = begun (word ∷ words) words (one ∷ []) (is, refl)
 
 record TypeTaken (words : List Word) (number_type : NumberType) (rest : List Word) : Type 0 where
   pub text : List Token

@@ -1,5 +1,5 @@
 -- What is listed, and what stands before a question, put together from what was read.
-use Rattle.std.proofs.Common.{◌≡◌, ℕ, suc, ◌+◌, ◌-◌, ◌<◌, ◌≤◌, List, [], ◌∷◌, ◌++◌, length, refl, sym, ap, ◌∙◌, subst, inl, inr, arith, append_assoc, append-nil}
+use Rattle.std.proofs.Common.{◌≡◌, ℕ, suc, ◌+◌, ◌-◌, ◌<◌, ◌≤◌, List, [], ◌∷◌, ◌++◌, refl, sym, ap, ◌∙◌, subst, inl, inr, arith, append_assoc, append-nil}
 use Rattle.litmus_tests.specs.declared.condition.Observed.{Observed}
 use Rattle.litmus_tests.specs.declared.condition.Observed.TheVariants as observed
 use Rattle.litmus_words.specs.declared.word.{Word.Word, Declared.Declared}
@@ -8,28 +8,29 @@ use Rattle.litmus_words.specs.declared.word.Token.TheVariants.{Location, Mark}
 use Rattle.litmus_words.specs.declared.word.Mark.TheVariants as mark
 use Rattle.litmus_words.specs.Parts.{ObservedTaken}
 use Rattle.litmus_words.specs.Tokens.{Takes}
-use Rattle.litmus_words.proofs.Taking.{one_behind_another}
+use Rattle.litmus_words.proofs.Taking.{one_behind_another, same_rest}
+use Rattle.litmus_reading.specs.Fitting.{IsThere}
 use Rattle.litmus_reading.specs.Names.{elements_of}
 use Rattle.litmus_reading.specs.Questions.{elements_from, listed_none, listed_last, listed_more, ItemTaken, ListedTaken, ListTaken, WholeTaken}
 
 -- one item
-pub one_taken : (words rest : List Word) (one : Observed) (before after : List Observed) (whole same : List ℕ)
-    → ObservedTaken words one rest → after ≡ before ++ one ∷ [] → same ≡ whole
-    → ItemTaken words before whole after same rest
-one_taken words rest one before after whole same taken is kept = record {
+pub one_taken : (harts : ℕ) (words rest : List Word) (one : Observed) (before after : List Observed) (whole same : List ℕ)
+    → ObservedTaken words one rest → IsThere harts one → after ≡ before ++ one ∷ [] → same ≡ whole
+    → ItemTaken harts words before whole after same rest
+one_taken harts words rest one before after whole same taken there is kept = record {
   text = taken.text;
   listed = one ∷ [];
   whole = [];
-  spells = inl (one, taken.spells, refl, refl);
+  spells = inl (record { one = one; spelled = taken.spells; there = there; lists = refl; none = refl });
   added = is;
   added_whole = kept ∙ sym (append-nil whole);
   takes = taken.takes;
 }
 
-pub whole_taken : (words rest : List Word) (declared : Declared) (before after : List Observed) (whole later : List ℕ)
+pub whole_taken : (harts : ℕ) (words rest : List Word) (declared : Declared) (before after : List Observed) (whole later : List ℕ)
     → WholeTaken words declared rest → after ≡ before ++ elements_from (elements_of declared) declared.first
-    → later ≡ whole ++ declared.first ∷ [] → ItemTaken words before whole after later rest
-whole_taken words rest declared before after whole later taken is so = record {
+    → later ≡ whole ++ declared.first ∷ [] → ItemTaken harts words before whole after later rest
+whole_taken harts words rest declared before after whole later taken is so = record {
   text = Location declared ∷ [];
   listed = elements_from (elements_of declared) declared.first;
   whole = declared.first ∷ [];
@@ -51,16 +52,16 @@ grown {A} before after new others is =
     sym (append_assoc before new others) ∙ ap (λ (t : List A). t ++ others) (sym is)
 
 -- one more, with a `;` behind it
-pub item_more : (words rest behind next : List Word) (before after : List Observed) (whole whole_after : List ℕ)
-    → ((others : List Observed) (w : List ℕ) (end : List Word) → ListedTaken rest others w end
-    → ListedTaken words (before ++ others) (whole ++ w) end)
-    → ItemTaken rest before whole after whole_after behind → Takes behind (Mark mark.Semicolon ∷ []) next
-    → (others : List Observed) (w : List ℕ) (end : List Word) → ListedTaken next others w end
-    → ListedTaken words (after ++ others) (whole_after ++ w) end
-item_more words rest behind next before after whole whole_after so_far taken semicolon others w end listed =
-    subst (λ (t : List Observed). ListedTaken words t (whole_after ++ w) end)
+pub item_more : (harts : ℕ) (words rest behind next : List Word) (before after : List Observed) (whole whole_after : List ℕ)
+    → ((others : List Observed) (w : List ℕ) (end : List Word) → ListedTaken harts rest others w end
+    → ListedTaken harts words (before ++ others) (whole ++ w) end)
+    → ItemTaken harts rest before whole after whole_after behind → Takes behind (Mark mark.Semicolon ∷ []) next
+    → (others : List Observed) (w : List ℕ) (end : List Word) → ListedTaken harts next others w end
+    → ListedTaken harts words (after ++ others) (whole_after ++ w) end
+item_more harts words rest behind next before after whole whole_after so_far taken semicolon others w end listed =
+    subst (λ (t : List Observed). ListedTaken harts words t (whole_after ++ w) end)
     (grown before after taken.listed others taken.added)
-    (subst (λ (t : List ℕ). ListedTaken words (before ++ (taken.listed ++ others)) t end)
+    (subst (λ (t : List ℕ). ListedTaken harts words (before ++ (taken.listed ++ others)) t end)
     (grown whole whole_after taken.whole w taken.added_whole)
     (so_far (taken.listed ++ others) (taken.whole ++ w) end (record {
       text = taken.text ++ Mark mark.Semicolon ∷ listed.text;
@@ -74,45 +75,53 @@ item_more words rest behind next before after whole whole_after so_far taken sem
     })))
 
 -- the last, with the bracket behind it
-pub item_last : (words rest behind end : List Word) (before after : List Observed) (whole whole_after : List ℕ)
-    → ((others : List Observed) (w : List ℕ) (end : List Word) → ListedTaken rest others w end
-    → ListedTaken words (before ++ others) (whole ++ w) end)
-    → ItemTaken rest before whole after whole_after behind → Takes behind (Mark mark.RightBracket ∷ []) end
-    → ListedTaken words after whole_after end
-item_last words rest behind end before after whole whole_after so_far taken closes =
-    subst (λ (t : List Observed). ListedTaken words t whole_after end) (sym taken.added)
-    (subst (λ (t : List ℕ). ListedTaken words (before ++ taken.listed) t end) (sym taken.added_whole)
+pub item_last : (harts : ℕ) (words rest behind end : List Word) (before after : List Observed) (whole whole_after : List ℕ)
+    → ((others : List Observed) (w : List ℕ) (end : List Word) → ListedTaken harts rest others w end
+    → ListedTaken harts words (before ++ others) (whole ++ w) end)
+    → ItemTaken harts rest before whole after whole_after behind → Takes behind (Mark mark.RightBracket ∷ []) end
+    → ListedTaken harts words after whole_after end
+item_last harts words rest behind end before after whole whole_after so_far taken closes =
+    subst (λ (t : List Observed). ListedTaken harts words t whole_after end) (sym taken.added)
+    (subst (λ (t : List ℕ). ListedTaken harts words (before ++ taken.listed) t end) (sym taken.added_whole)
     (so_far taken.listed taken.whole end (record {
       text = taken.text;
       spells = listed_last taken.text taken.listed taken.whole taken.spells;
       takes = one_behind_another rest behind end taken.text (Mark mark.RightBracket ∷ []) taken.takes closes;
     })))
 
-pub no_item : (words rest end : List Word) (before : List Observed) (whole : List ℕ)
-    → ((others : List Observed) (w : List ℕ) (end : List Word) → ListedTaken rest others w end
-    → ListedTaken words (before ++ others) (whole ++ w) end)
-    → Takes rest (Mark mark.RightBracket ∷ []) end → ListedTaken words before whole end
-no_item words rest end before whole so_far closes =
-    subst (λ (t : List Observed). ListedTaken words t whole end) (append-nil before)
-    (subst (λ (t : List ℕ). ListedTaken words (before ++ []) t end) (append-nil whole)
+pub no_item : (harts : ℕ) (words rest end : List Word) (before : List Observed) (whole : List ℕ)
+    → ((others : List Observed) (w : List ℕ) (end : List Word) → ListedTaken harts rest others w end
+    → ListedTaken harts words (before ++ others) (whole ++ w) end)
+    → Takes rest (Mark mark.RightBracket ∷ []) end → ListedTaken harts words before whole end
+no_item harts words rest end before whole so_far closes =
+    subst (λ (t : List Observed). ListedTaken harts words t whole end) (append-nil before)
+    (subst (λ (t : List ℕ). ListedTaken harts words (before ++ []) t end) (append-nil whole)
     (so_far [] [] end (record { text = []; spells = listed_none; takes = closes })))
 
 -- nothing is listed before the first
-pub at_first : (words : List Word) (listed : List Observed) (whole : List ℕ) → listed ≡ [] → whole ≡ []
-    → (others : List Observed) (w : List ℕ) (end : List Word) → ListedTaken words others w end
-    → ListedTaken words (listed ++ others) (whole ++ w) end
-at_first words listed whole none_listed none_whole others w end taken =
-    subst (λ (t : List Observed). ListedTaken words (t ++ others) (whole ++ w) end) (sym none_listed)
-    (subst (λ (t : List ℕ). ListedTaken words others (t ++ w) end) (sym none_whole) taken)
+pub at_first : (harts : ℕ) (words : List Word) (listed : List Observed) (whole : List ℕ) → listed ≡ [] → whole ≡ []
+    → (others : List Observed) (w : List ℕ) (end : List Word) → ListedTaken harts words others w end
+    → ListedTaken harts words (listed ++ others) (whole ++ w) end
+at_first harts words listed whole none_listed none_whole others w end taken =
+    subst (λ (t : List Observed). ListedTaken harts words (t ++ others) (whole ++ w) end) (sym none_listed)
+    (subst (λ (t : List ℕ). ListedTaken harts words others (t ++ w) end) (sym none_whole) taken)
 
-pub of_list : (words behind inside rest : List Word) (listed : List Observed) (whole : List ℕ)
+pub of_list : (harts : ℕ) (words behind inside rest : List Word) (listed : List Observed) (whole : List ℕ)
     → Takes words (Mark mark.Locations ∷ []) behind → Takes behind (Mark mark.LeftBracket ∷ []) inside
-    → ListedTaken inside listed whole rest → ListTaken words listed whole rest
-of_list words behind inside rest listed whole first second are = record {
+    → ListedTaken harts inside listed whole rest → ListTaken harts words listed whole rest
+of_list harts words behind inside rest listed whole first second are = record {
   inside = inside;
   opens = one_behind_another words behind inside (Mark mark.Locations ∷ []) (Mark mark.LeftBracket ∷ []) first second;
   are = are;
 }
+
+pub list_inside : (harts : ℕ) (words behind inside rest : List Word) (listed : List Observed) (whole : List ℕ)
+    → Takes words (Mark mark.Locations ∷ []) behind → Takes behind (Mark mark.LeftBracket ∷ []) inside
+    → ListTaken harts words listed whole rest → ListedTaken harts inside listed whole rest
+list_inside harts words behind inside rest listed whole first second it =
+    subst (λ (t : List Word). ListedTaken harts t listed whole rest)
+    (same_rest words it.inside inside (Mark mark.Locations ∷ Mark mark.LeftBracket ∷ []) it.opens
+    (one_behind_another words behind inside (Mark mark.Locations ∷ []) (Mark mark.LeftBracket ∷ []) first second)) it.are
 
 -- the elements of an array, one more at each turn
 pub element_listed : (count last first element index : ℕ) (all before after : List Observed) → last ≡ count

@@ -1,6 +1,6 @@
 -- Names of locations, a word more at each turn.
-use Rattle.std.proofs.Common.{◌≡◌, ℕ, suc, ◌+◌, ◌<◌, ◌≤◌, Bool, true, false, if◌then◌else◌, List, [], ◌∷◌, ◌++◌, Option, Some, None, length, drop, get_or}
-use Rattle.std.proofs.Common.{refl, sym, ap, ◌∙◌, subst, arith, append_assoc, append-nil, drop-cons, drop_of_length-le}
+use Rattle.std.proofs.Common.{◌≡◌, ℕ, suc, ◌+◌, ◌<◌, ◌≤◌, Bool, true, false, if◌then◌else◌, List, [], ◌∷◌, ◌++◌, Some, None, length, drop, get_or}
+use Rattle.std.proofs.Common.{sym, ap, ◌∙◌, subst, arith, append_assoc, append-nil, drop-cons, drop_of_length-le}
 use Rattle.litmus_words.specs.declared.word.Word.{Word}
 use Rattle.litmus_words.specs.Bytes.{same_bytes}
 use Rattle.litmus_reading.specs.declared.locations.{Named.Named, Beginning.Beginning}
@@ -45,6 +45,17 @@ names_told text inside names next words i d b here new =
     ∷ new_names text inside (names ++ name_at text inside next (get_or words i d) ∷ [])
     (behind (declared_at next (declaration_of text inside (get_or words i d)))) (drop (i + 1) words)
     else new_names text inside names next (drop (i + 1) words)) new
+
+-- the first that is new in what is left
+pub next_new : (text : List ℕ) (inside : List Word) (all names : List Named) (next : Beginning) (words : List Word)
+    (i : ℕ) (d : Word) → i < length words → names ++ new_names text inside names next (drop i words) ≡ all
+    → is_new text names (get_or words i d) ≡ true
+    → (others : List Named) × (all ≡ names ++ name_at text inside next (get_or words i d) ∷ others)
+next_new text inside all names next words i d here so_far new = (
+  new_names text inside (names ++ name_at text inside next (get_or words i d) ∷ [])
+      (behind (declared_at next (declaration_of text inside (get_or words i d)))) (drop (i + 1) words),
+  sym so_far ∙ ap (λ (t : List Named). names ++ t) (names_told text inside names next words i d true here new),
+)
 
 -- one name more
 pub name_more : (text : List ℕ) (inside : List Word) (all names after : List Named) (next later : Beginning)

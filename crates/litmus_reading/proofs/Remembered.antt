@@ -1,6 +1,6 @@
 -- Words of memory, one more at each turn.
 use Rattle.std.proofs.Common.{◌≡◌, ℕ, suc, ◌+◌, ◌-◌, ◌<◌, ◌≤◌, List, [], ◌∷◌, ◌++◌, length, drop, get_or}
-use Rattle.std.proofs.Common.{refl, sym, ap, ◌∙◌, arith, append_assoc, append-nil, drop_of_length-le}
+use Rattle.std.proofs.Common.{sym, ap, ◌∙◌, arith, append_assoc, append-nil, drop_of_length-le}
 use Rattle.litmus_tests.specs.declared.value.Value.{Value}
 use Rattle.litmus_words.specs.declared.word.Declared.{Declared}
 use Rattle.litmus_reading.specs.declared.locations.Named.{Named}

@@ -1,5 +1,5 @@
 -- Parts of a whole test, a brace, a hart, a location and a thread more at each turn.
-use Rattle.std.proofs.Common.{◌≡◌, ◌≢◌, ℕ, zero, suc, ◌+◌, ◌-◌, ◌*◌, ◌<◌, ◌≤◌, List, [], ◌∷◌, ◌++◌, length, drop, get_or, take}
+use Rattle.std.proofs.Common.{◌≡◌, ℕ, zero, suc, ◌+◌, ◌-◌, ◌*◌, ◌<◌, ◌≤◌, false, List, [], ◌∷◌, ◌++◌, length, drop, get_or, take}
 use Rattle.std.proofs.Common.{Option, Some, None, true≢false, take-append-drop}
 use Rattle.std.specs.Prelude.{slice_get, option_and_then, unwrap_or, is_none}
 use Rattle.std.specs.Prelude.{All}
@@ -7,7 +7,6 @@ use Rattle.std.proofs.lemmas.List.{length-drop, take_all, take_more}
 use Rattle.std.proofs.lemmas.List.Elements.{All-append, All-cons, All-nil}
 use Rattle.std.proofs.lemmas.Option.{slice_get_within, slice_get-get_or, get_or_from_slice_get}
 use Rattle.std.proofs.Common.{refl, sym, ap, ◌∙◌, subst, inl, inr, arith, append_assoc, append-nil, drop_of_length-le, length-append}
-use Rattle.std.specs.Prelude.{◌⊎◌}
 use Rattle.litmus_tests.specs.declared.location.Location.{Location}
 use Rattle.litmus_tests.specs.declared.test.Thread.{Thread}
 use Rattle.litmus_words.specs.declared.word.Word.{Word}
@@ -18,15 +17,16 @@ use Rattle.litmus_words.specs.Cuts.{IsCut, LacksMark}
 use Rattle.litmus_reading.specs.declared.locations.Named.{Named}
 use Rattle.litmus_reading.specs.declared.start.Entry.{Entry}
 use Rattle.litmus_reading.specs.Names.{elements_of}
-use Rattle.litmus_reading.specs.Rows.{ended_by, is_semicolon}
+use Rattle.litmus_reading.specs.Declarations.{begins}
+use Rattle.litmus_reading.specs.Rows.{ended_by, is_asking, is_semicolon}
 use Rattle.litmus_reading.specs.Starts.{starts_of}
-use Rattle.litmus_reading.specs.Texts.{AreElementsFrom, AreHeads, AreLocations, AreThreads, IsBraced, IsClosedAt, IsElementOf, IsHead, IsHeadRow, IsTable, HasCells, LocationsAdded, one_less, open_after, open_behind}
+use Rattle.litmus_reading.specs.Texts.{AreClosed, AreElementsFrom, AreHeads, AreLocations, AreThreads, IsBraced, IsClosedAt, IsElementOf, IsHead, IsHeadRow, IsQuiet, IsTable, HasCells, LocationsAdded, one_less, open_after, open_behind}
 use Rattle.litmus_reading.specs.Threads.{SpellsThread}
 use Rattle.litmus_reading.proofs.Cells.{row_ended}
 use Rattle.litmus_reading.proofs.Naming.{drop_here, pushed}
 
 -- a list at one of its elements
-parts_at : {A : Type 0} (xs : List A) (i : ℕ) (x : A) → slice_get xs i ≡ Some x → xs ≡ take i xs ++ x ∷ drop (i + 1) xs
+pub parts_at : {A : Type 0} (xs : List A) (i : ℕ) (x : A) → slice_get xs i ≡ Some x → xs ≡ take i xs ++ x ∷ drop (i + 1) xs
 parts_at {A} xs i x there =
     sym (take-append-drop i xs)
     ∙ ap (λ (t : List A). take i xs ++ t) (drop_here xs i x (slice_get_within xs i x there)
@@ -131,14 +131,27 @@ pub record RowsBefore (harts : ℕ) (words rest : List Word) : Type 0 where
   pub ended : (others : List Word)
       → ended_by is_semicolon (rows ++ others) ≡ ended_by is_semicolon rows ++ ended_by is_semicolon others
   pub cells : All (HasCells harts) (ended_by is_semicolon rows)
+  pub quiet : All IsQuiet (ended_by is_semicolon rows)
+  pub closed : AreClosed rows
 
 pub no_row : (harts : ℕ) (words : List Word) → RowsBefore harts words words
-no_row harts words = record { rows = []; spelled = refl; ended = λ others. refl; cells = All-nil (HasCells harts) }
+no_row harts words = record {
+  rows = [];
+  spelled = refl;
+  ended = λ others. refl;
+  cells = All-nil (HasCells harts);
+  quiet = All-nil IsQuiet;
+  closed = inl refl;
+}
+
+quiet_row : (row rest : List Word) → begins is_asking (row ++ rest) ≡ false → IsQuiet row
+quiet_row [] rest quiet = refl
+quiet_row (word ∷ row) rest quiet = quiet
 
 row_behind : (harts : ℕ) (words rest row behind : List Word) (stop : Word) → RowsBefore harts words rest
     → rest ≡ row ++ stop ∷ behind → stop.token ≡ Mark mark.Semicolon → LacksMark mark.Semicolon row
-    → HasCells harts row → RowsBefore harts words behind
-row_behind harts words rest row behind stop so_far is closes lacks cells =
+    → HasCells harts row → IsQuiet row → RowsBefore harts words behind
+row_behind harts words rest row behind stop so_far is closes lacks cells quiet =
     let one : ended_by is_semicolon (so_far.rows ++ (row ++ stop ∷ []))
     ≡ ended_by is_semicolon so_far.rows ++ row ∷ [] =
     so_far.ended (row ++ stop ∷ [])
@@ -159,14 +172,24 @@ row_behind harts words rest row behind stop so_far is closes lacks cells =
       cells = subst (All (HasCells harts)) (sym one)
           (All-append (HasCells harts) (ended_by is_semicolon so_far.rows) (row ∷ []) so_far.cells
           (All-cons (HasCells harts) row [] cells (All-nil (HasCells harts))));
+      quiet = subst (All IsQuiet) (sym one)
+          (All-append IsQuiet (ended_by is_semicolon so_far.rows) (row ∷ []) so_far.quiet
+          (All-cons IsQuiet row [] quiet (All-nil IsQuiet)));
+      closed = inr (record {
+        front = so_far.rows ++ row;
+        last = stop;
+        spelled = sym (append_assoc so_far.rows row (stop ∷ []));
+        closes = closes;
+      });
     }
 
 pub rows_more : (harts : ℕ) (words rest row behind : List Word) → RowsBefore harts words rest
     → IsCut rest mark.Semicolon row behind → LacksMark mark.Semicolon row → (length row ≡ length rest → ⊥)
-    → HasCells harts row → RowsBefore harts words behind
-rows_more harts words rest row behind so_far (inl whole) lacks short cells = absurd (short (ap length (sym whole.0)))
-rows_more harts words rest row behind so_far (inr cut) lacks short cells =
+    → HasCells harts row → begins is_asking rest ≡ false → RowsBefore harts words behind
+rows_more harts words rest row behind so_far (inl whole) lacks short cells quiet = absurd (short (ap length (sym whole.0)))
+rows_more harts words rest row behind so_far (inr cut) lacks short cells quiet =
     row_behind harts words rest row behind cut.0 so_far cut.1 cut.2 lacks cells
+    (quiet_row row (cut.0 ∷ behind) (sym (ap (begins is_asking) cut.1) ∙ quiet))
 
 take_front : {A : Type 0} (front rest : List A) → take (length front) (front ++ rest) ≡ front
 take_front {A} [] [] = refl
@@ -183,7 +206,9 @@ table harts words rest count so_far many =
     ∙ ap (λ (n : ℕ). take n (so_far.rows ++ rest)) same ∙ ap (take count) (sym so_far.spelled) in
     record {
       spelled = so_far.spelled ∙ ap (λ (t : List Word). t ++ rest) front;
+      closed = subst AreClosed front so_far.closed;
       cells = subst (λ (t : List Word). All (HasCells harts) (ended_by is_semicolon t)) front so_far.cells;
+      quiet = subst (λ (t : List Word). All IsQuiet (ended_by is_semicolon t)) front so_far.quiet;
     }
 
 -- the elements of a name

@@ -1,8 +1,14 @@
 -- What stands before the braces: `RISCV` and the name of the test, which goes to the end of the line without the blanks
--- about it; a string, or none; and lines `Key=..`. [herd's litmus format]
+-- about it; a string, or none; and lines `Key=..`. Each part begins where the blanks and comments before it are over, so
+-- there is one way to read it. [herd's litmus format]
 use Rattle.std.specs.Prelude.{◌≡◌, ◌≢◌, ◌⊎◌, ℕ, ◌+◌, ◌-◌, ◌≤◌, ◌<◌, Bool, true, false, List, codes, length, slice_index, slice_range}
 use Rattle.std.specs.Char.{is_ascii_whitespace}
-use Rattle.litmus_words.specs.Gaps.{IsGap}
+use Rattle.litmus_words.specs.Gaps.{IsGap, IsGapEnd}
+use Rattle.litmus_words.specs.Words.{GoesOn}
+
+-- From the one byte to the other stand blanks and comments, and there they are over.
+abbrev pub IsWholeGap : List ℕ → ℕ → ℕ → Type 0
+IsWholeGap text from to = IsGap text from to × IsGapEnd text to
 
 -- From the one byte to the other stand blanks alone; no byte is this one.
 abbrev pub AreBlank : List ℕ → ℕ → ℕ → Type 0
@@ -38,10 +44,11 @@ pub record IsString (text : List ℕ) (from to : ℕ) : Type 0 where
   pub closes : slice_index text last ≡ 34
   pub behind : to ≡ last + 1
 
--- `Key=..`, to the end of its line.
+-- `Key=..`, to the end of its line. The key is a whole name.
 pub record IsKeyLine (text : List ℕ) (from to : ℕ) : Type 0 where
   pub equals : ℕ
   pub key : from < equals
+  pub whole : GoesOn text from equals
   pub sign : slice_index text equals ≡ 61
   pub line : IsLineTo text equals to
 
@@ -57,9 +64,9 @@ IsAtBraces text at = (at ≡ length text) ⊎ (slice_index text at ≡ 123)
 pub data IsMetadata (text : List ℕ) : Bool → ℕ → ℕ → Type 0 where
   metadata_over : (may_quote : Bool) (at : ℕ) → IsAtBraces text at → IsMetadata text may_quote at at
   metadata_part : (may_quote left : Bool) (at behind next to : ℕ) → IsPart text may_quote at left behind
-      → IsGap text behind next → IsMetadata text left next to → IsMetadata text may_quote at to
+      → IsWholeGap text behind next → IsMetadata text left next to → IsMetadata text may_quote at to
 
--- This name stands behind `RISCV`, and the braces begin at this byte.
+-- This name stands behind the word `RISCV`, and the braces begin at this byte.
 pub record IsHeadOf (text name : List ℕ) (braces : ℕ) : Type 0 where
   pub begin : ℕ
   pub behind : ℕ
@@ -67,11 +74,12 @@ pub record IsHeadOf (text name : List ℕ) (braces : ℕ) : Type 0 where
   pub start : ℕ
   pub end : ℕ
   pub first : ℕ
-  pub gap : IsGap text 0 begin
+  pub gap : IsWholeGap text 0 begin
   pub word : slice_range text begin behind ≡ codes "RISCV"
+  pub whole : GoesOn text begin behind
   pub one_line : IsLineTo text behind line
   pub trimmed : IsTrimmed text behind line start end
   pub some : start < end
   pub named : name ≡ slice_range text start end
-  pub between : IsGap text end first
+  pub between : IsWholeGap text end first
   pub metadata : IsMetadata text true first braces

@@ -1,6 +1,6 @@
 -- Which tokens spell an instruction: its name, and its operands (RISC-V Unprivileged ISA; the RISC-V Assembly
 -- Programmer's Manual for the order of operands).
-use Rattle.std.specs.Prelude.{◌≡◌, ◌⊎◌, ◌≤◌, ◌<◌, ◌*◌, ◌^◌, ℕ, ℤ, pos, List, [], ◌∷◌, ◌++◌}
+use Rattle.std.specs.Prelude.{◌≡◌, ◌⊎◌, ◌≤◌, ◌<◌, ◌*◌, ◌^◌, ℕ, ℤ, pos, Bool, true, false, List, [], ◌∷◌, ◌++◌}
 use Rattle.rv_instr.specs.Table.{IsSigned}
 use Rattle.rv_instr.specs.declared.instr.Instr.{Instr}
 use Rattle.rv_instr.specs.declared.instr.Instr.TheVariants as instr
@@ -16,12 +16,13 @@ use Rattle.litmus_tests.specs.declared.fence.Fence.TheVariants.{Sets, TotalStore
 use Rattle.litmus_words.specs.declared.mnemonic.Mnemonic.{Mnemonic}
 use Rattle.litmus_words.specs.declared.mnemonic.Mnemonic.TheVariants as name
 use Rattle.litmus_words.specs.declared.word.Token.{Token}
-use Rattle.litmus_words.specs.declared.word.Token.TheVariants.{Register, Mark}
+use Rattle.litmus_words.specs.declared.word.Token.TheVariants.{Register, Mark, Name, Location}
 use Rattle.litmus_words.specs.declared.word.Token.TheVariants.{Mnemonic as name_token}
 use Rattle.litmus_words.specs.declared.word.Mark.TheVariants as mark
 use Rattle.litmus_words.specs.declared.word.Word.{Word}
 use Rattle.litmus_words.specs.Parts.{SpellsInteger, SpellsNumber, SpellsAddress as SpellsByteAddress}
-use Rattle.litmus_tests.specs.{Conditions.number_of, declared.value.Value.TheVariants.Address}
+use Rattle.litmus_reading.specs.Fences.{HasItsSets}
+use Rattle.litmus_tests.specs.{Limits.most_locations, Conditions.number_of, declared.value.Value.TheVariants.Address}
 use Rattle.litmus_words.specs.Tokens.{Takes, tokens}
 
 -- `x5,x6` and `x5,x6,x7`.
@@ -109,6 +110,7 @@ pub record SpellsLoadAddress (text : List Token) (register value : ℕ) : Type 0
   pub address : List Token
   pub byte : ℕ
   pub spells : SpellsByteAddress address byte
+  pub there : byte < 4 * most_locations
   pub number : value ≡ number_of (Address byte)
   pub spelled : text ≡ Register register ∷ Mark mark.Comma ∷ address
 
@@ -140,6 +142,17 @@ SpellsStraight name.Nothing text (instr.Immediate Addi rd rs1 imm) =
     (imm ≡ pos 0) × (rd ≡ 0) × (rs1 ≡ 0) × (text ≡ [])
 SpellsStraight mnemonic text instruction = ⊥
 
+-- What can be the name of a label: a location may have the same name. It is the last of the words.
+abbrev pub is_label : Token → Bool
+is_label Name = true
+is_label (Location declared) = true
+is_label token = false
+
+pub record IsLastLabel (words : List Word) (label : Word) : Type 0 where
+  pub front : List Word
+  pub last : words ≡ front ++ label ∷ []
+  pub named : is_label label.token ≡ true
+
 -- A branch names its target by a word.
 abbrev pub SpellsBranch : Mnemonic → List Token → Written → Type 0
 SpellsBranch (name.Branch op) text (Branch op' left right label) = (op ≡ op')
@@ -156,7 +169,7 @@ SpellsBranch name.JumpAndLink text (Branch op' left right label) = (op' ≡ Beq)
     × (text ≡ Register 0 ∷ Mark mark.Comma ∷ label.token ∷ [])
 SpellsBranch mnemonic text written = ⊥
 
--- The operands of an instruction of this name. Those of a fence with sets stand in `Fences`.
+-- The operands of an instruction of this name; the sets of a fence are told by `HasItsSets`.
 abbrev pub SpellsWritten : Mnemonic → List Token → Written → Type 0
 SpellsWritten mnemonic text (Straight instruction) = SpellsStraight mnemonic text instruction
 SpellsWritten name.Constant text (Constant register value) = SpellsConstant text register value
@@ -167,9 +180,16 @@ SpellsWritten name.TotalStoreOrderFence text (Fence TotalStoreOrder) = text ≡ 
 SpellsWritten mnemonic text (Fence fence) = ⊥
 SpellsWritten mnemonic text (Branch op left right label) = SpellsBranch mnemonic text (Branch op left right label)
 
+-- The label to which a branch goes is the last of its words.
+abbrev pub HasItsLabel : List Word → Written → Type 0
+HasItsLabel words (Branch op left right label) = IsLastLabel words label
+HasItsLabel words written = Unit {0}
+
 -- The words spell the instruction: its name, and behind it its operands.
-pub record SpellsInstruction (words : List Word) (written : Written) : Type 0 where
+pub record SpellsInstruction (text : List ℕ) (words : List Word) (written : Written) : Type 0 where
   pub mnemonic : Mnemonic
   pub operands : List Token
   pub spelled : tokens words ≡ name_token mnemonic ∷ operands
   pub spells : SpellsWritten mnemonic operands written
+  pub label : HasItsLabel words written
+  pub sets : HasItsSets text words written

@@ -1,5 +1,6 @@
 pub mod Declarations
 pub mod Fences
+pub mod Fitting
 pub mod Grammar
 pub mod Heads
 pub mod Instructions
@@ -8,6 +9,7 @@ pub mod Memory
 pub mod Names
 pub mod Questions
 pub mod Rows
+pub mod Same
 pub mod Starts
 pub mod Texts
 pub mod Threads

@@ -48,6 +48,11 @@ words_from (suc more) entries declared word =
 abbrev pub word_count : Declared → ℕ
 word_count declared = (declared.size + 3) / 4
 
+-- How many words all names have.
+abbrev pub word_total : List Named → ℕ
+word_total [] = 0
+word_total (name ∷ names) = word_count name.declared + word_total names
+
 abbrev pub words_of : List Entry → Declared → List Value
 words_of entries declared = words_from (word_count declared) entries declared 0
 

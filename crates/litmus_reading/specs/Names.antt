@@ -1,11 +1,10 @@
 -- The names of locations are those that stand in the braces, each where it stands first, and wherever such a name stands
 -- is the location. Each is what its first entry declares, and stands behind those before it, at a word.
-use Rattle.std.specs.Prelude.{ℕ, ◌+◌, ◌*◌, ◌/◌, Bool, true, false, is_none, is_some, ◌&&◌, if◌then◌else◌, List, [], ◌∷◌, ◌++◌, Option, Some, None, unwrap_or}
+use Rattle.std.specs.Prelude.{◌≢◌, ℕ, ◌+◌, ◌*◌, ◌/◌, Bool, is_none, is_some, ◌&&◌, if◌then◌else◌, List, [], ◌∷◌, ◌++◌, Option, Some, None, unwrap_or, All}
 use Rattle.watched_outcomes.specs.Watching.{bytes_of}
 use Rattle.litmus_words.specs.declared.word.{Word.Word, Declared.Declared}
-use Rattle.litmus_words.specs.declared.word.Token.{Token}
-use Rattle.litmus_words.specs.declared.word.Token.TheVariants.{Name, Location}
-use Rattle.litmus_words.specs.Bytes.{same_bytes}
+use Rattle.litmus_words.specs.declared.word.Token.TheVariants.{Location}
+use Rattle.litmus_words.specs.Bytes.{bytes_in, same_bytes}
 use Rattle.litmus_words.specs.Parts.{element_size}
 use Rattle.litmus_reading.specs.declared.declarations.Declaration.{Declaration}
 use Rattle.litmus_reading.specs.declared.locations.{Named.Named, Beginning.Beginning}
@@ -33,6 +32,10 @@ behind declared = record {
   first = declared.first + elements_of declared;
   byte = (declared.byte + declared.size + 3) / 4 * 4;
 }
+
+-- A name that a location may have: one without a `.`.
+abbrev pub IsNewLocation : List ℕ → Named → Type 0
+IsNewLocation text name = All (λ byte. byte ≢ 46) (bytes_in text name.word)
 
 -- What a word is the name of: what the first name is with the same bytes.
 abbrev pub declared_of : List ℕ → List Named → Word → Option Declared

@@ -13,6 +13,15 @@ abbrev pub is_bar : Token → Bool
 is_bar (Mark mark.Bar) = true
 is_bar token = false
 
+-- What can't begin a row: what is asked begins so.
+abbrev pub is_asking : Token → Bool
+is_asking (Mark mark.Exists) = true
+is_asking (Mark mark.ForAll) = true
+is_asking (Mark mark.Not) = true
+is_asking (Mark mark.Locations) = true
+is_asking (Mark mark.Filter) = true
+is_asking token = false
+
 -- The parts, with one word more before the first.
 abbrev pub onto_first : Word → List (List Word) → List (List Word)
 onto_first word [] = (word ∷ []) ∷ []

@@ -1,5 +1,5 @@
 -- The start: entries with a `;` behind each; the last may have none. [herd's initial state]
-use Rattle.std.specs.Prelude.{◌≡◌, ◌⊎◌, ℕ, zero, suc, ◌+◌, ◌≤◌, ◌==◌, ◌&&◌, true, false, Bool, if◌then◌else◌, length}
+use Rattle.std.specs.Prelude.{◌≡◌, ◌⊎◌, ℕ, zero, suc, ◌+◌, ◌<◌, ◌≤◌, ◌==◌, ◌&&◌, true, false, Bool, if◌then◌else◌, length, map, All}
 use Rattle.std.specs.Prelude.{List, [], ◌∷◌, ◌++◌, Option, Some, None, option_map, option_to_list, unwrap_or}
 use Rattle.litmus_tests.specs.declared.value.Value.{Value}
 use Rattle.litmus_tests.specs.declared.value.Value.TheVariants as value
@@ -13,9 +13,10 @@ use Rattle.litmus_words.specs.declared.word.Mark.TheVariants as mark
 use Rattle.litmus_words.specs.Parts.{index_tokens, SpellsValue}
 use Rattle.litmus_words.specs.Tokens.{Takes}
 use Rattle.litmus_reading.specs.declared.contents.Given.{Given}
-use Rattle.litmus_reading.specs.declared.start.{HartStart.HartStart, Initial.Initial}
+use Rattle.litmus_reading.specs.declared.start.{HartStart.HartStart}
 use Rattle.litmus_reading.specs.declared.start.Entry.{Entry}
 use Rattle.litmus_reading.specs.declared.start.Entry.TheVariants.{Register, Location}
+use Rattle.litmus_reading.specs.Fitting.{FitsGiven}
 use Rattle.litmus_reading.specs.Names.{elements_of}
 
 -- What may stand before an entry: a type, and a `*` behind it.
@@ -38,16 +39,21 @@ pub record GivenTaken (words : List Word) (given : Given) (rest : List Word) : T
   pub spells : SpellsGiven text given
   pub takes : Takes words text rest
 
--- `0:x5=1`.
-pub record SpellsRegister (text : List Token) (start : HartStart) : Type 0 where
+-- A value that fits where it is given.
+abbrev pub SpellsHeld : Given → List Token → Value → Type 0
+SpellsHeld given text held = SpellsValue text held × FitsGiven given text held
+
+-- `0:x5=1`: x0 can hold no other number than 0.
+pub record SpellsRegister (given : Given) (text : List Token) (start : HartStart) : Type 0 where
   pub number : List Token
   pub spelled : text
       ≡ Number start.hart ∷ Mark mark.Colon ∷ register_token start.register ∷ Mark mark.Equals ∷ number
-  pub holds : SpellsValue number start.value
+  pub other : 0 < start.register
+  pub holds : SpellsHeld given number start.value
 
-pub record RegisterTaken (words : List Word) (start : HartStart) (rest : List Word) : Type 0 where
+pub record RegisterTaken (given : Given) (words : List Word) (start : HartStart) (rest : List Word) : Type 0 where
   pub text : List Token
-  pub spells : SpellsRegister text start
+  pub spells : SpellsRegister given text start
   pub takes : Takes words text rest
 
 -- `x`, `[x]`.
@@ -67,18 +73,18 @@ placed location (held ∷ others) =
     Location (record { location = location; value = held }) ∷ placed (location + 1) others
 
 -- `=1`; where nothing stands, it is 0.
-abbrev pub SpellsInitial : List Token → List Value → Type 0
-SpellsInitial text values = ((text ≡ []) × (values ≡ value.Number 0 ∷ []))
-    ⊎ ((number : List Token) × (held : Value) × (text ≡ Mark mark.Equals ∷ number) × SpellsValue number held
+abbrev pub SpellsInitial : Given → List Token → List Value → Type 0
+SpellsInitial given text values = ((text ≡ []) × (values ≡ value.Number 0 ∷ []))
+    ⊎ ((number : List Token) × (held : Value) × (text ≡ Mark mark.Equals ∷ number) × SpellsHeld given number held
     × (values ≡ held ∷ []))
 
 -- `1,2}`.
-abbrev pub SpellsElements : List Token → List Value → Type 0
-SpellsElements text [] = ⊥
-SpellsElements text (held ∷ others) = (first : List Token) × (rest : List Token) × SpellsValue first held
+abbrev pub SpellsElements : Given → List Token → List Value → Type 0
+SpellsElements given text [] = ⊥
+SpellsElements given text (held ∷ others) = (first : List Token) × (rest : List Token) × SpellsHeld given first held
     × (text ≡ first ++ rest)
     × (((rest ≡ Mark mark.RightBrace ∷ []) × (others ≡ []))
-    ⊎ ((more : List Token) × (rest ≡ Mark mark.Comma ∷ more) × SpellsElements more others))
+    ⊎ ((more : List Token) × (rest ≡ Mark mark.Comma ∷ more) × SpellsElements given more others))
 
 -- `[2]`, of an array that has one element at least.
 abbrev pub SpellsCount : List Token → Type 0
@@ -90,41 +96,46 @@ pub record CountTaken (words rest : List Word) : Type 0 where
   pub takes : Takes words text rest
 
 -- Behind that `={1,2}`, of which there are no more than there are elements; where nothing stands, they are 0.
-pub record SpellsFilled (declared : Declared) (text : List Token) (values : List Value) : Type 0 where
+pub record SpellsFilled (given : Given) (declared : Declared) (text : List Token) (values : List Value)
+    : Type 0 where
   pub inner : List Token
   pub spelled : text ≡ Mark mark.Equals ∷ Mark mark.LeftBrace ∷ inner
-  pub elements : SpellsElements inner values
+  pub elements : SpellsElements given inner values
   pub few : length values ≤ elements_of declared
 
-abbrev pub SpellsHeld : Declared → List Token → List Value → Type 0
-SpellsHeld declared text values = ((text ≡ []) × (values ≡ value.Number 0 ∷ [])) ⊎ SpellsFilled declared text values
+abbrev pub MayBeFilled : Given → Declared → List Token → List Value → Type 0
+MayBeFilled given declared text values =
+    ((text ≡ []) × (values ≡ value.Number 0 ∷ [])) ⊎ SpellsFilled given declared text values
 
-pub record SpellsArray (declared : Declared) (text : List Token) (values : List Value) : Type 0 where
+-- An array, which is never given as a pointer: how many elements it has, and what they hold.
+pub record SpellsArray (given : Given) (declared : Declared) (text : List Token) (values : List Value)
+    : Type 0 where
   pub count : List Token
   pub held : List Token
   pub spelled : text ≡ count ++ held
+  pub plain : given.is_pointer ≡ false
   pub counted : SpellsCount count
-  pub holds : SpellsHeld declared held values
+  pub holds : MayBeFilled given declared held values
 
 -- What stands behind the name of a location, and behind that of an array.
-abbrev pub SpellsContents : Declared → List Token → List Value → Type 0
-SpellsContents declared text values = ((declared.is_array ≡ false) × SpellsInitial text values)
-    ⊎ ((declared.is_array ≡ true) × SpellsArray declared text values)
+abbrev pub SpellsContents : Given → Declared → List Token → List Value → Type 0
+SpellsContents given declared text values = ((declared.is_array ≡ false) × SpellsInitial given text values)
+    ⊎ ((declared.is_array ≡ true) × SpellsArray given declared text values)
 
 -- So many entries are added to those before.
-pub record ContentsTaken (declared : Declared) (words : List Word) (before after : List Entry) (rest : List Word)
-    : Type 0 where
+pub record ContentsTaken (given : Given) (declared : Declared) (words : List Word) (before after : List Entry)
+    (rest : List Word) : Type 0 where
   pub text : List Token
   pub values : List Value
-  pub spells : SpellsContents declared text values
+  pub spells : SpellsContents given declared text values
   pub added : after ≡ before ++ placed declared.first values
   pub takes : Takes words text rest
 
-pub record ElementsTaken (declared : Declared) (words : List Word) (before after : List Entry) (rest : List Word)
-    : Type 0 where
+pub record ElementsTaken (given : Given) (declared : Declared) (words : List Word) (before after : List Entry)
+    (rest : List Word) : Type 0 where
   pub text : List Token
   pub values : List Value
-  pub spells : SpellsElements text values
+  pub spells : SpellsElements given text values
   pub few : length values ≤ elements_of declared
   pub added : after ≡ before ++ placed declared.first values
   pub takes : Takes words text rest
@@ -143,31 +154,34 @@ initial_in (Location initial ∷ entries) location =
     if initial.location == location then Some initial.value else initial_in entries location
 
 -- `x=1`, `[x]=1`, `x`, `x[2]={1,2}`, of which no entry before speaks.
-pub record SpellsPlace (before : List Entry) (text : List Token) (entries : List Entry) : Type 0 where
+pub record SpellsPlace (given : Given) (before : List Entry) (text : List Token) (entries : List Entry)
+    : Type 0 where
   pub declared : Declared
   pub values : List Value
   pub name : List Token
   pub contents : List Token
   pub spelled : text ≡ name ++ contents
   pub named : SpellsName name declared
-  pub holds : SpellsContents declared contents values
+  pub holds : SpellsContents given declared contents values
   pub once : initial_in before declared.first ≡ None
   pub are : entries ≡ placed declared.first values
 
 -- An entry says what a register holds, of which no entry before speaks, or a location or the elements of an array.
-pub record SpellsHart (before : List Entry) (text : List Token) (entries : List Entry) : Type 0 where
+pub record SpellsHart (given : Given) (before : List Entry) (text : List Token) (entries : List Entry)
+    : Type 0 where
   pub start : HartStart
-  pub spells : SpellsRegister text start
+  pub spells : SpellsRegister given text start
   pub once : start_in before start.hart start.register ≡ None
   pub are : entries ≡ Register start ∷ []
 
-abbrev pub SpellsUntyped : List Entry → List Token → List Entry → Type 0
-SpellsUntyped before text entries = SpellsHart before text entries ⊎ SpellsPlace before text entries
+abbrev pub SpellsUntyped : Given → List Entry → List Token → List Entry → Type 0
+SpellsUntyped given before text entries = SpellsHart given before text entries ⊎ SpellsPlace given before text entries
 
-pub record AddedTaken (words : List Word) (before after : List Entry) (rest : List Word) : Type 0 where
+pub record AddedTaken (given : Given) (words : List Word) (before after : List Entry) (rest : List Word)
+    : Type 0 where
   pub text : List Token
   pub entries : List Entry
-  pub spells : SpellsUntyped before text entries
+  pub spells : SpellsUntyped given before text entries
   pub added : after ≡ before ++ entries
   pub takes : Takes words text rest
 
@@ -178,7 +192,7 @@ pub record SpellsEntry (before : List Entry) (text : List Token) (entries : List
   pub behind : List Token
   pub spelled : text ≡ first ++ behind
   pub gives : SpellsGiven first given
-  pub untyped : SpellsUntyped before behind entries
+  pub untyped : SpellsUntyped given before behind entries
 
 pub record EntryTaken (words : List Word) (before after : List Entry) (rest : List Word) : Type 0 where
   pub text : List Token
@@ -186,6 +200,11 @@ pub record EntryTaken (words : List Word) (before after : List Entry) (rest : Li
   pub spells : SpellsEntry before text entries
   pub added : after ≡ before ++ entries
   pub takes : Takes words text rest
+
+-- Behind an entry a `;` stands, or nothing.
+abbrev pub IsEnded : List Word → Type 0
+IsEnded [] = Unit {0}
+IsEnded (word ∷ words) = word.token ≡ Mark mark.Semicolon
 
 -- All entries behind those before, in their order.
 pub data AreEntries : List Entry → List Entry → List Token → Type 0 where
@@ -195,6 +214,24 @@ pub data AreEntries : List Entry → List Entry → List Token → Type 0 where
   entries_more : (before entries further : List Entry) (text others : List Token) → SpellsEntry before text entries
       → AreEntries (before ++ entries) further others
       → AreEntries before (entries ++ further) (text ++ Mark mark.Semicolon ∷ others)
+
+-- What an entry says, without the place in the text where that is told.
+abbrev pub unplaced : Entry → Entry
+unplaced (Register start) =
+    Register (record { at = 0; hart = start.hart; register = start.register; value = start.value })
+unplaced (Location initial) = Location initial
+
+-- Entries that say the same, wherever they are told.
+abbrev pub SayTheSame : List Entry → List Entry → Type 0
+SayTheSame entries others = map unplaced entries ≡ map unplaced others
+
+-- The harts of which entries say something are among so many.
+abbrev pub IsOfHarts : ℕ → Entry → Type 0
+IsOfHarts harts (Register start) = start.hart < harts
+IsOfHarts harts (Location initial) = Unit {0}
+
+abbrev pub AreOfHarts : ℕ → List Entry → Type 0
+AreOfHarts harts entries = All (IsOfHarts harts) entries
 
 -- A location of which nothing is said holds 0.
 abbrev pub initial_of : List Entry → ℕ → Value

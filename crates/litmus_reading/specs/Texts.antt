@@ -1,8 +1,9 @@
 -- A whole test: the start in braces, the row of harts, the rows below it, and the question.
-use Rattle.std.specs.Prelude.{◌≡◌, ℕ, zero, suc, ◌+◌, ◌*◌, ◌/◌, ◌%◌, Bool, true, false, if◌then◌else◌, ◌==◌, List, [], ◌∷◌, ◌++◌, ◌≤◌, length, map, take, All}
+use Rattle.std.specs.Prelude.{◌≡◌, ◌⊎◌, ℕ, zero, suc, ◌+◌, ◌*◌, ◌/◌, ◌%◌, false, if◌then◌else◌, ◌==◌, List, [], ◌∷◌, ◌++◌, ◌≤◌, length, map, take, All}
 use Rattle.std.specs.Prelude.{Option, Some, None, option_and_then, slice_get}
 use Rattle.std.specs.List.{list_any}
 use Rattle.litmus_tests.specs.declared.test.LitmusTest.{LitmusTest}
+use Rattle.litmus_tests.specs.WellFormed.{IsWellFormed}
 use Rattle.litmus_tests.specs.declared.location.{Location.Location, Element.Element}
 use Rattle.litmus_tests.specs.declared.test.Thread.{Thread}
 use Rattle.litmus_tests.specs.declared.condition.Observed.{Observed}
@@ -16,13 +17,14 @@ use Rattle.litmus_words.specs.Parts.{element_size}
 use Rattle.litmus_words.specs.Tokens.{tokens}
 use Rattle.litmus_reading.specs.declared.locations.Named.{Named}
 use Rattle.litmus_reading.specs.declared.start.Entry.{Entry}
+use Rattle.litmus_reading.specs.Declarations.{begins}
 use Rattle.litmus_reading.specs.Heads.{IsHeadOf}
 use Rattle.litmus_reading.specs.Looked.{looked_at}
 use Rattle.litmus_reading.specs.Memory.{memory_of}
-use Rattle.litmus_reading.specs.Names.{elements_of, located_word, names_in}
+use Rattle.litmus_reading.specs.Names.{elements_of, located_word, names_in, IsNewLocation}
 use Rattle.litmus_reading.specs.Questions.{SpellsQuestion}
-use Rattle.litmus_reading.specs.Rows.{ended_by, is_bar, is_semicolon, parted_by}
-use Rattle.litmus_reading.specs.Starts.{starts_of, AreEntries}
+use Rattle.litmus_reading.specs.Rows.{ended_by, is_asking, is_bar, is_semicolon, parted_by}
+use Rattle.litmus_reading.specs.Starts.{starts_of, AreEntries, AreOfHarts}
 use Rattle.litmus_reading.specs.Threads.{SpellsThread}
 
 -- How many braces are open behind a token, before which so many are: none where one closes that was never opened.
@@ -119,9 +121,25 @@ AreThreads text rows entries hart (thread ∷ threads) = (thread.starts.items �
 abbrev pub HasCells : ℕ → List Word → Type 0
 HasCells harts row = length (parted_by is_bar row) ≡ harts
 
+-- None of them begins as what is asked does.
+abbrev pub IsQuiet : List Word → Type 0
+IsQuiet row = begins is_asking row ≡ false
+
+-- A `;` stands behind the last.
+pub record EndsInSemicolon (rows : List Word) : Type 0 where
+  pub front : List Word
+  pub last : Word
+  pub spelled : rows ≡ front ++ last ∷ []
+  pub closes : last.token ≡ Mark mark.Semicolon
+
+abbrev pub AreClosed : List Word → Type 0
+AreClosed rows = (rows ≡ []) ⊎ EndsInSemicolon rows
+
 pub record IsTable (harts : ℕ) (words rows asked : List Word) : Type 0 where
   pub spelled : words ≡ rows ++ asked
+  pub closed : AreClosed rows
   pub cells : All (HasCells harts) (ended_by is_semicolon rows)
+  pub quiet : All IsQuiet (ended_by is_semicolon rows)
 
 -- The words are those of the test, in which the names of locations are known.
 pub record IsOfWords (text : List ℕ) (names : List Named) (words : List Word) (test : LitmusTest) : Type 0 where
@@ -135,12 +153,13 @@ pub record IsOfWords (text : List ℕ) (names : List Named) (words : List Word) 
   pub whole : List ℕ
   pub braced : IsBraced words inside behind
   pub start : AreEntries [] entries (tokens inside)
+  pub harts : AreOfHarts (length test.threads.items) entries
   pub heads : IsHeadRow behind (length test.threads.items) below
   pub parted : IsTable (length test.threads.items) below rows asked
   pub memory : test.words.items ≡ memory_of entries names
   pub locations : AreLocations text whole names test.locations.items
   pub threads : AreThreads text rows entries 0 test.threads.items
-  pub question : SpellsQuestion asked test.quantifier test.condition test.filter listed whole
+  pub question : SpellsQuestion (length test.threads.items) asked test.quantifier test.condition test.filter listed whole
   pub observed : test.observed.items ≡ looked_at test.condition test.filter listed (length test.threads.items)
       (length test.locations.items)
 
@@ -155,4 +174,9 @@ pub record IsTextOf (text : List ℕ) (test : LitmusTest) : Type 0 where
   pub head : IsHeadOf text test.name.items from
   pub stand : StandFrom text from words
   pub braced : IsBraced words inside behind
+  pub named : All (IsNewLocation text) (names_in text inside)
   pub is : IsOfWords text (names_in text inside) (map (located_word text (names_in text inside)) words) test
+
+-- No test is spelled by the text.
+abbrev pub IsNoTest : List ℕ → Type 0
+IsNoTest text = (test : LitmusTest) → IsTextOf text test → IsWellFormed test → ⊥

@@ -11,7 +11,7 @@ use Rattle.litmus_words.specs.Bytes.{same_bytes}
 use Rattle.litmus_reading.specs.declared.instruction.Written.{Written}
 use Rattle.litmus_reading.specs.declared.instruction.Written.TheVariants.{Straight, Constant, Branch, Fence}
 use Rattle.litmus_reading.specs.declared.thread.Label.{Label}
-use Rattle.litmus_reading.specs.Instructions.{SpellsInstruction}
+use Rattle.litmus_reading.specs.Instructions.{SpellsInstruction, is_label}
 use Rattle.litmus_reading.specs.Rows.{column_of}
 
 abbrev pub is_colon : Token → Bool
@@ -52,22 +52,28 @@ target_of text [] word = None
 target_of text (label ∷ labels) word =
     if same_bytes text label.word word then Some label.place else target_of text labels word
 
+-- A word that can be the name of a label, and of none of these.
+pub record IsNewLabel (text : List ℕ) (before : List Label) (word : Word) : Type 0 where
+  pub named : is_label word.token ≡ true
+  pub new : target_of text before word ≡ None
+
 -- None of these labels stands before it already.
 abbrev pub AreOnce : List ℕ → List Label → List Label → Type 0
 AreOnce text before [] = Unit {0}
 AreOnce text before (label ∷ labels) =
-    (target_of text before label.word ≡ None) × AreOnce text (before ++ label ∷ []) labels
+    IsNewLabel text before label.word × AreOnce text (before ++ label ∷ []) labels
 
 -- Each instruction is spelled by its words.
-abbrev pub AreSpelled : List (List Word) → List Written → Type 0
-AreSpelled [] [] = Unit {0}
-AreSpelled (words ∷ others) (written ∷ more) = SpellsInstruction words written × AreSpelled others more
-AreSpelled others more = ⊥
+abbrev pub AreSpelled : List ℕ → List (List Word) → List Written → Type 0
+AreSpelled text [] [] = Unit {0}
+AreSpelled text (words ∷ others) (written ∷ more) =
+    SpellsInstruction text words written × AreSpelled text others more
+AreSpelled text others more = ⊥
 
 -- The instruction of a cell is behind those before, if it has one.
-pub record StepAdded (instruction : List Word) (before after : List Written) : Type 0 where
+pub record StepAdded (text : List ℕ) (instruction : List Word) (before after : List Written) : Type 0 where
   pub written : List Written
-  pub spelled : AreSpelled (if_some instruction) written
+  pub spelled : AreSpelled text (if_some instruction) written
   pub added : after ≡ before ++ written
 
 -- The step that an instruction is: a branch leads to where its label does.
@@ -87,6 +93,6 @@ AreStepsOf text labels more steps = ⊥
 -- The steps of a hart, by the words of the rows.
 pub record SpellsThread (text : List ℕ) (rows : List Word) (hart : ℕ) (steps : List LitmusStep) : Type 0 where
   pub written : List Written
-  pub spelled : AreSpelled (instructions_of (column_of hart rows)) written
+  pub spelled : AreSpelled text (instructions_of (column_of hart rows)) written
   pub once : AreOnce text [] (labels_from 0 (column_of hart rows))
   pub steps_are : AreStepsOf text (labels_from 0 (column_of hart rows)) written steps

@@ -1,8 +1,21 @@
 //! Conditions, by recursive descent: `<=>` of `=>` of `\/` of `/\` of what stands alone. The recursion is as deep as
 //! `not` and parentheses are nested, and as there are terms before a `=>`; both are bounded.
 
-ghost use Rattle.std.specs.Prelude.{◌<◌, IfOk};
+ghost use Rattle.std.specs.Prelude.{◌≡◌, ◌<◌, ◌≤◌, ◌+◌, List, ℕ, IfOk, OnOk};
+ghost use Rattle.litmus_words.specs.Answered.{Gives, GivesOrMemory};
+ghost use Rattle.litmus_words.specs.declared.word.Token.TheVariants as token;
+ghost use Rattle.litmus_words.specs.declared.word.Mark.TheVariants as mark_of;
+ghost use Rattle.litmus_tests.specs.declared.condition.Term.{Term as AnyTerm};
+ghost use Rattle.litmus_words.specs.declared.word.Word.{Word as AnyWord};
+ghost use Rattle.litmus_tests.specs.declared.condition.Observed.{Observed as AnyObserved};
+ghost use Rattle.litmus_tests.specs.declared.condition.Observed.TheVariants as observed;
+ghost use Rattle.litmus_tests.specs.declared.condition.Condition.{Condition as AnyCondition};
+ghost use Rattle.litmus_reading.specs.Grammar.{Syntax as AnySyntax};
 ghost use Rattle.litmus_reading.specs.Grammar.{
+  CanBeRead,
+  IsReadAs,
+  TermTaken,
+  most_terms,
   ConditionTaken,
   IsNegation,
   IsConjunction,
@@ -10,12 +23,14 @@ ghost use Rattle.litmus_reading.specs.Grammar.{
   IsImplication,
   IsEquivalence,
 };
-ghost use Rattle.litmus_words.specs.Parts.{ObservedTaken};
+ghost use Rattle.litmus_words.specs.Parts.{LocationTaken, NoIndex, NoOffset, ObservedTaken};
+ghost use Rattle.litmus_reading.specs.Fitting.{FittingTaken, IsThere};
+ghost use Rattle.litmus_tests.specs.declared.value.Value.{Value as AnyValue};
 ghost use Rattle.litmus_tests.specs.declared.condition.Condition.{Holds};
 
 use crate::fitting::{check_width, width_at};
 use litmus_tests::test::MOST_TERMS;
-use litmus_tests::{Condition, Observed, Term};
+use litmus_tests::{Condition, Observed, Term, Value, Width};
 use litmus_words::{
     Fault, Mark, Stop, Token, Word, behind_mark, location, mark, next, register_but_zero, start_of,
     value,
@@ -45,7 +60,11 @@ pub(crate) fn read_condition<'a>(
     room: u8,
     leaves: &mut Leaves,
 ) -> Result<(Condition, &'a [Word]), Stop>
-    ensures { IfOk result (λ p. ConditionTaken 4 words.now p.0 p.1.now) }
+    ensures taken { IfOk result (λ p. ConditionTaken asked.now.harts 4 room leaves.old.count words.now p.0 p.1.now
+        leaves.new.count) }
+    ensures only { (syntax : AnySyntax) → (condition : AnyCondition) → (rest : List AnyWord)
+        → CanBeRead asked.now.harts 4 room leaves.old.count words.now syntax condition rest → GivesOrMemory result
+        (λ p. IsReadAs leaves.old.count syntax condition rest p.0 p.1.now leaves.new.count) }
 {
     let (mut condition, mut rest) = read_implied(asked, words, room, leaves)?;
     while let Some(behind) = behind_mark(rest, Mark::Equivalent) {
@@ -64,7 +83,11 @@ fn read_implied<'a>(
     room: u8,
     leaves: &mut Leaves,
 ) -> Result<(Condition, &'a [Word]), Stop>
-    ensures { IfOk result (λ p. ConditionTaken 3 words.now p.0 p.1.now) }
+    ensures taken { IfOk result (λ p. ConditionTaken asked.now.harts 3 room leaves.old.count words.now p.0 p.1.now
+        leaves.new.count) }
+    ensures only { (syntax : AnySyntax) → (condition : AnyCondition) → (rest : List AnyWord)
+        → CanBeRead asked.now.harts 3 room leaves.old.count words.now syntax condition rest → GivesOrMemory result
+        (λ p. IsReadAs leaves.old.count syntax condition rest p.0 p.1.now leaves.new.count) }
 {
     let (left, rest) = read_either(asked, words, room, leaves)?;
     let Some(behind) = behind_mark(rest, Mark::Implies) else {
@@ -83,7 +106,11 @@ fn read_either<'a>(
     room: u8,
     leaves: &mut Leaves,
 ) -> Result<(Condition, &'a [Word]), Stop>
-    ensures { IfOk result (λ p. ConditionTaken 2 words.now p.0 p.1.now) }
+    ensures taken { IfOk result (λ p. ConditionTaken asked.now.harts 2 room leaves.old.count words.now p.0 p.1.now
+        leaves.new.count) }
+    ensures only { (syntax : AnySyntax) → (condition : AnyCondition) → (rest : List AnyWord)
+        → CanBeRead asked.now.harts 2 room leaves.old.count words.now syntax condition rest → GivesOrMemory result
+        (λ p. IsReadAs leaves.old.count syntax condition rest p.0 p.1.now leaves.new.count) }
 {
     let (mut condition, mut rest) = read_both(asked, words, room, leaves)?;
     while let Some(behind) = behind_mark(rest, Mark::Or) {
@@ -102,7 +129,11 @@ fn read_both<'a>(
     room: u8,
     leaves: &mut Leaves,
 ) -> Result<(Condition, &'a [Word]), Stop>
-    ensures { IfOk result (λ p. ConditionTaken 1 words.now p.0 p.1.now) }
+    ensures taken { IfOk result (λ p. ConditionTaken asked.now.harts 1 room leaves.old.count words.now p.0 p.1.now
+        leaves.new.count) }
+    ensures only { (syntax : AnySyntax) → (condition : AnyCondition) → (rest : List AnyWord)
+        → CanBeRead asked.now.harts 1 room leaves.old.count words.now syntax condition rest → GivesOrMemory result
+        (λ p. IsReadAs leaves.old.count syntax condition rest p.0 p.1.now leaves.new.count) }
 {
     let (mut condition, mut rest) = read_alone(asked, words, room, leaves)?;
     while let Some(behind) = behind_mark(rest, Mark::And) {
@@ -121,7 +152,11 @@ fn read_alone<'a>(
     room: u8,
     leaves: &mut Leaves,
 ) -> Result<(Condition, &'a [Word]), Stop>
-    ensures { IfOk result (λ p. ConditionTaken 0 words.now p.0 p.1.now) }
+    ensures taken { IfOk result (λ p. ConditionTaken asked.now.harts 0 room leaves.old.count words.now p.0 p.1.now
+        leaves.new.count) }
+    ensures only { (syntax : AnySyntax) → (condition : AnyCondition) → (rest : List AnyWord)
+        → CanBeRead asked.now.harts 0 room leaves.old.count words.now syntax condition rest → GivesOrMemory result
+        (λ p. IsReadAs leaves.old.count syntax condition rest p.0 p.1.now leaves.new.count) }
 {
     if let Some(behind) = behind_mark(words, Mark::Not) {
         let room = deeper(asked, words, room)?;
@@ -139,7 +174,8 @@ fn read_alone<'a>(
 
 /// How many levels may be nested in what is nested here.
 fn deeper(asked: &Asked, words: &[Word], room: u8) -> Result<u8, Stop>
-    ensures { IfOk result (λ less. less < room) }
+    ensures less { IfOk result (λ less. less + 1 ≡ room) }
+    ensures only { 0 < room → Gives result (λ _. Unit {0}) }
 {
     if room == 0 {
         return Err(Stop::at(start_of(words, asked.end), Fault::TooDeep));
@@ -153,7 +189,11 @@ fn read_leaf<'a>(
     words: &'a [Word],
     leaves: &mut Leaves,
 ) -> Result<(Condition, &'a [Word]), Stop>
-    ensures { IfOk result (λ p. ConditionTaken 0 words.now p.0 p.1.now) }
+    ensures taken { IfOk result (λ p. ConditionTaken asked.now.harts 0 0 leaves.old.count words.now p.0 p.1.now
+        leaves.new.count) }
+    ensures only { (syntax : AnySyntax) → (condition : AnyCondition) → (rest : List AnyWord)
+        → CanBeRead asked.now.harts 0 0 leaves.old.count words.now syntax condition rest → GivesOrMemory result
+        (λ p. IsReadAs leaves.old.count syntax condition rest p.0 p.1.now leaves.new.count) }
 {
     if let Some(behind) = behind_mark(words, Mark::True) {
         count_leaf(asked, words, leaves)?;
@@ -168,13 +208,21 @@ fn read_term<'a>(
     words: &'a [Word],
     leaves: &mut Leaves,
 ) -> Result<(Condition, &'a [Word]), Stop>
-    ensures { IfOk result (λ p. ConditionTaken 0 words.now p.0 p.1.now) }
+    ensures taken { IfOk result (λ p. ConditionTaken asked.now.harts 0 0 leaves.old.count words.now p.0 p.1.now
+        leaves.new.count) }
+    ensures only_equal { (term : AnyTerm) → (rest : List AnyWord)
+        → TermTaken (token.Mark mark_of.Equals) words.now term rest → IsThere asked.now.harts term.observed
+        → NoIndex rest → NoOffset rest → leaves.old.count < most_terms → GivesOrMemory result (λ p.
+        (p.0 ≡ Holds term) × (p.1.now ≡ rest) × (leaves.new.count ≡ leaves.old.count + 1)) }
+    ensures only_other { (term : AnyTerm) → (rest : List AnyWord)
+        → TermTaken (token.Mark mark_of.Differs) words.now term rest → IsThere asked.now.harts term.observed
+        → NoIndex rest → NoOffset rest → leaves.old.count < most_terms → GivesOrMemory result (λ p.
+        IsNegation (Holds term) p.0 × (p.1.now ≡ rest) × (leaves.new.count ≡ leaves.old.count + 1)) }
 {
     let (observed, rest) = read_observed(asked, words)?;
     let width = width_at(words);
     if let Some(behind) = behind_mark(rest, Mark::Differs) {
-        check_width(behind, width, asked.end)?;
-        let (other, rest) = value(behind, asked.end)?;
+        let (other, rest) = read_number(behind, width, asked.end)?;
         count_leaf(asked, words, leaves)?;
         let term = Term {
             observed,
@@ -184,9 +232,8 @@ fn read_term<'a>(
         let whole = differing(term, asked.alloc)?;
         return Ok((whole, rest));
     }
-    let rest = mark(rest, Mark::Equals, asked.end)?;
-    check_width(rest, width, asked.end)?;
-    let (value, rest) = value(rest, asked.end)?;
+    let behind = mark(rest, Mark::Equals, asked.end)?;
+    let (value, rest) = read_number(behind, width, asked.end)?;
     count_leaf(asked, words, leaves)?;
     let term = Term {
         observed,
@@ -196,8 +243,22 @@ fn read_term<'a>(
     Ok((Condition::Holds(term), rest))
 }
 
+/// Reads a value that fits in a width.
+fn read_number(words: &[Word], width: Width, end: usize) -> Result<(Value, &[Word]), Stop>
+    ensures taken { IfOk result (λ p. FittingTaken width words.now p.0 p.1.now) }
+    ensures only { (value : AnyValue) → (rest : List AnyWord) → FittingTaken width words.now value rest → NoIndex rest
+        → NoOffset rest → Gives result (λ p. (p.0 ≡ value) × (p.1.now ≡ rest)) }
+{
+    check_width(words, width, end)?;
+    value(words, end)
+}
+
 /// Counts one more, `true` too: what follows a condition by recursion goes as deep as there are.
-fn count_leaf(asked: &Asked, words: &[Word], leaves: &mut Leaves) -> Result<(), Stop> {
+fn count_leaf(asked: &Asked, words: &[Word], leaves: &mut Leaves) -> Result<(), Stop>
+    ensures counted { OnOk result (leaves.new.count ≡ leaves.old.count + 1) }
+    ensures few { OnOk result (leaves.new.count ≤ most_terms) }
+    ensures only { leaves.old.count < most_terms → Gives result (λ _. Unit {0}) }
+{
     if leaves.count >= MOST_TERMS {
         return Err(Stop::at(start_of(words, asked.end), Fault::TooManyTerms));
     }
@@ -210,12 +271,14 @@ pub(crate) fn read_observed<'a>(
     asked: &Asked,
     words: &'a [Word],
 ) -> Result<(Observed, &'a [Word]), Stop>
-    ensures { IfOk result (λ p. ObservedTaken words.now p.0 p.1.now) }
+    ensures taken { IfOk result (λ p. ObservedTaken words.now p.0 p.1.now) }
+    ensures there { IfOk result (λ p. IsThere asked.now.harts p.0) }
+    ensures only { (one : AnyObserved) → (rest : List AnyWord) → ObservedTaken words.now one rest
+        → IsThere asked.now.harts one → NoIndex rest → Gives result (λ p. (p.0 ≡ one) × (p.1.now ≡ rest)) }
 {
     let (word, rest) = next(words, asked.end)?;
     let Token::Number(hart) = word.token else {
-        let (index, rest) = location(words, asked.end)?;
-        return Ok((Observed::Location(index), rest));
+        return read_location(words, asked.end);
     };
     if hart >= u32::from(asked.harts) {
         return Err(Stop::at(word.start, Fault::NoHart));
@@ -224,6 +287,17 @@ pub(crate) fn read_observed<'a>(
     let (register, rest) = register_but_zero(rest, asked.end)?;
     let hart = hart as u8;
     Ok((Observed::Register { hart, register }, rest))
+}
+
+/// Reads `x`, `[x]` or `x[1]`.
+fn read_location(words: &[Word], end: usize) -> Result<(Observed, &[Word]), Stop>
+    ensures taken { IfOk result (λ p. ObservedTaken words.now p.0 p.1.now) }
+    ensures there { (harts : ℕ) → IfOk result (λ p. IsThere harts p.0) }
+    ensures only { (index : ℕ) → (rest : List AnyWord) → LocationTaken words.now index rest → NoIndex rest
+        → Gives result (λ p. (p.0 ≡ observed.Location index) × (p.1.now ≡ rest)) }
+{
+    let (index, rest) = location(words, end)?;
+    Ok((Observed::Location(index), rest))
 }
 
 /// That a term doesn't hold.

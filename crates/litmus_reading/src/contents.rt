@@ -1,9 +1,16 @@
 //! What an entry of the start gives: the value of a register or of a location, or the elements of an array.
 
-ghost use Rattle.std.specs.Prelude.{◌≡◌, ◌++◌, ◌∷◌, [], true, false, IfOk, OnOk};
-ghost use Rattle.litmus_words.specs.Parts.{ValueTaken};
+ghost use Rattle.std.specs.Prelude.{◌≡◌, ◌++◌, ◌∷◌, [], List, true, false, IfOk, OnOk};
+ghost use Rattle.litmus_words.specs.Answered.{Gives, GivesOrMemory};
+ghost use Rattle.litmus_words.specs.Parts.{NoIndex, NoOffset, ValueTaken};
+ghost use Rattle.litmus_words.specs.declared.word.Word.{Word as AnyWord};
+ghost use Rattle.litmus_tests.specs.declared.value.Value.{Value as AnyValue};
+ghost use Rattle.litmus_reading.specs.Fitting.{GivenValueTaken};
+ghost use Rattle.litmus_reading.specs.declared.contents.Given.{Given as AnyGiven};
+ghost use Rattle.litmus_reading.specs.declared.start.Entry.{Entry as AnyEntry};
 ghost use Rattle.litmus_reading.specs.declared.start.Entry.TheVariants.{Location};
-ghost use Rattle.litmus_reading.specs.Starts.{ContentsTaken, CountTaken, ElementsTaken, GivenTaken};
+ghost use Rattle.litmus_reading.specs.Declarations.{begins, is_star, is_type};
+ghost use Rattle.litmus_reading.specs.Starts.{ContentsTaken, CountTaken, ElementsTaken, GivenTaken, IsEnded};
 
 use crate::declarations::{begins_with_star, behind_star, behind_type};
 use crate::fitting::{check_pointer, check_width};
@@ -23,7 +30,9 @@ pub(crate) struct Given {
 
 /// The type and the `*` before an entry.
 pub(crate) fn read_given(words: &[Word]) -> (Given, &[Word])
-    ensures { GivenTaken words.now result.0 result.1.now }
+    ensures taken { GivenTaken words.now result.0 result.1.now }
+    ensures only { (given : AnyGiven) → (rest : List AnyWord) → GivenTaken words.now given rest
+        → begins is_type rest ≡ false → begins is_star rest ≡ false → (result.0 ≡ given) × (result.1.now ≡ rest) }
 {
     let (number_type, rest) = behind_type(words);
     let given = Given {
@@ -35,14 +44,25 @@ pub(crate) fn read_given(words: &[Word]) -> (Given, &[Word])
 
 /// Reads a value that is given so.
 pub(crate) fn read_value(given: Given, words: &[Word], end: usize) -> Result<(Value, &[Word]), Stop>
-    ensures { IfOk result (λ p. ValueTaken words.now p.0 p.1.now) }
+    ensures taken { IfOk result (λ p. GivenValueTaken given words.now p.0 p.1.now) }
+    ensures only { (value : AnyValue) → (rest : List AnyWord) → GivenValueTaken given words.now value rest
+        → NoIndex rest → NoOffset rest → Gives result (λ p. (p.0 ≡ value) × (p.1.now ≡ rest)) }
+{
+    check_given(given, words, end)?;
+    value(words, end)
+}
+
+/// Refuses a value that doesn't fit where it is given.
+fn check_given(given: Given, words: &[Word], end: usize) -> Result<(), Stop>
+    ensures fits { OnOk result ((value : AnyValue) → (rest : List AnyWord) → ValueTaken words.now value rest
+        → GivenValueTaken given words.now value rest) }
+    ensures only { (value : AnyValue) → (rest : List AnyWord) → GivenValueTaken given words.now value rest
+        → Gives result (λ _. Unit {0}) }
 {
     if given.is_pointer {
-        check_pointer(words, given.number_type.width)?;
-    } else {
-        check_width(words, given.number_type.width, end)?;
+        return check_pointer(words, given.number_type.width);
     }
-    value(words, end)
+    check_width(words, given.number_type.width, end)
 }
 
 /// Reads what a location holds, or the elements of an array.
@@ -53,7 +73,11 @@ pub(crate) fn read_contents<'a>(
     words: &'a [Word],
     end: usize,
 ) -> Result<&'a [Word], Stop>
-    ensures { IfOk result (λ rest. ContentsTaken declared words.now entries.old.items entries.new.items rest.now) }
+    ensures taken { IfOk result (λ rest.
+        ContentsTaken given declared words.now entries.old.items entries.new.items rest.now) }
+    ensures only { (after : List AnyEntry) → (rest : List AnyWord)
+        → ContentsTaken given declared words.now entries.old.items after rest → IsEnded rest
+        → GivesOrMemory result (λ behind. (behind.now ≡ rest) × (entries.new.items ≡ after)) }
 {
     if declared.is_array {
         return read_array(entries, given, declared, words, end);
@@ -70,21 +94,26 @@ fn read_initial<'a>(
     end: usize,
 ) -> Result<&'a [Word], Stop>
     requires { declared.is_array ≡ false }
-    ensures { IfOk result (λ rest. ContentsTaken declared words.now entries.old.items entries.new.items rest.now) }
+    ensures taken { IfOk result (λ rest.
+        ContentsTaken given declared words.now entries.old.items entries.new.items rest.now) }
+    ensures only { (after : List AnyEntry) → (rest : List AnyWord)
+        → ContentsTaken given declared words.now entries.old.items after rest → IsEnded rest
+        → GivesOrMemory result (λ behind. (behind.now ≡ rest) × (entries.new.items ≡ after)) }
 {
     let Some(behind) = behind_mark(words, Mark::Equals) else {
-        add_initial(entries, declared.first, Value::Number(0))?;
+        add_initial(entries, declared.first as usize, Value::Number(0))?;
         return Ok(words);
     };
     let (value, rest) = read_value(given, behind, end)?;
-    add_initial(entries, declared.first, value)?;
+    add_initial(entries, declared.first as usize, value)?;
     Ok(rest)
 }
 
 /// Adds what a location holds.
 fn add_initial(entries: &mut Vec<Entry>, location: usize, value: Value) -> Result<(), Stop>
-    ensures { OnOk result (entries.new.items
+    ensures added { OnOk result (entries.new.items
         ≡ entries.old.items ++ Location (record { location = location; value = value }) ∷ []) }
+    ensures only { GivesOrMemory result (λ _. Unit {0}) }
 {
     add_entry(entries, Entry::Location(Initial { location, value }))
 }
@@ -98,11 +127,15 @@ fn read_array<'a>(
     end: usize,
 ) -> Result<&'a [Word], Stop>
     requires { declared.is_array ≡ true }
-    ensures { IfOk result (λ rest. ContentsTaken declared words.now entries.old.items entries.new.items rest.now) }
+    ensures taken { IfOk result (λ rest.
+        ContentsTaken given declared words.now entries.old.items entries.new.items rest.now) }
+    ensures only { (after : List AnyEntry) → (rest : List AnyWord)
+        → ContentsTaken given declared words.now entries.old.items after rest → IsEnded rest
+        → GivesOrMemory result (λ behind. (behind.now ≡ rest) × (entries.new.items ≡ after)) }
 {
     let rest = read_count(given, words, end)?;
     let Some(behind) = behind_mark(rest, Mark::Equals) else {
-        add_initial(entries, declared.first, Value::Number(0))?;
+        add_initial(entries, declared.first as usize, Value::Number(0))?;
         return Ok(rest);
     };
     let inner = mark(behind, Mark::LeftBrace, end)?;
@@ -112,7 +145,10 @@ fn read_array<'a>(
 
 /// Reads `[2]`, how many elements there are.
 fn read_count(given: Given, words: &[Word], end: usize) -> Result<&[Word], Stop>
-    ensures { IfOk result (λ rest. CountTaken words.now rest.now) }
+    ensures taken { IfOk result (λ rest. CountTaken words.now rest.now) }
+    ensures plain { OnOk result (given.is_pointer ≡ false) }
+    ensures only { (rest : List AnyWord) → CountTaken words.now rest → given.is_pointer ≡ false
+        → Gives result (λ behind. behind.now ≡ rest) }
 {
     let rest = mark(words, Mark::LeftBracket, end)?;
     let at = start_of(rest, end);
@@ -135,14 +171,17 @@ fn read_elements<'a>(
     words: &'a [Word],
     end: usize,
 ) -> Result<&'a [Word], Stop>
-    ensures { IfOk result (λ rest. ElementsTaken declared words.now entries.old.items entries.new.items rest.now) }
+    ensures taken { IfOk result (λ rest.
+        ElementsTaken given declared words.now entries.old.items entries.new.items rest.now) }
+    ensures only { (after : List AnyEntry) → (rest : List AnyWord)
+        → ElementsTaken given declared words.now entries.old.items after rest
+        → GivesOrMemory result (λ behind. (behind.now ≡ rest) × (entries.new.items ≡ after)) }
 {
     let mut rest = words;
     let count = elements_of(declared);
     for element in 0..count {
         let (value, behind) = read_value(given, rest, end)?;
-        let index = index_of(declared, element)?;
-        add_initial(entries, index, value)?;
+        add_initial(entries, index_of(declared, element), value)?;
         let Some(next) = behind_mark(behind, Mark::Comma) else {
             let after = mark(behind, Mark::RightBrace, end)?;
             return Ok(after);

@@ -1,10 +1,13 @@
 //! Fences, with the sets of accesses that they name.
 
-ghost use Rattle.std.specs.Prelude.{◌≡◌, IfOk};
+ghost use Rattle.std.specs.Prelude.{◌≡◌, [], List, All, true, false, IfOk};
+ghost use Rattle.litmus_words.specs.Answered.{Gives};
+ghost use Rattle.litmus_words.specs.declared.word.Word.{Word as AnyWord};
+ghost use Rattle.litmus_tests.specs.declared.fence.AccessSet.{AccessSet as AnySet};
 ghost use Rattle.litmus_words.specs.Tokens.{tokens};
 ghost use Rattle.litmus_words.specs.declared.mnemonic.Mnemonic.TheVariants as name;
-ghost use Rattle.litmus_reading.specs.Instructions.{SpellsWritten};
-ghost use Rattle.litmus_reading.specs.Fences.{SpellsFence, SpellsSets, AccessesTaken, accesses_of};
+ghost use Rattle.litmus_reading.specs.Instructions.{HasItsLabel, SpellsWritten};
+ghost use Rattle.litmus_reading.specs.Fences.{SpellsFence, SpellsSets, AccessesTaken, accesses_of, is_access};
 ghost use Rattle.litmus_reading.specs.declared.instruction.Written.TheVariants as written;
 ghost use Rattle.litmus_tests.specs.declared.fence.Fence.TheVariants as fence;
 
@@ -23,7 +26,10 @@ const EVERY_ACCESS: AccessSet = AccessSet {
 /// `fence`, alone or with two sets of accesses.
 pub(crate) fn read_fence(text: &[u8], operands: &[Word], end: usize) -> Result<Written, Stop>
     ensures name { IfOk result (SpellsWritten name.Fence (tokens operands.now)) }
+    ensures label { IfOk result (HasItsLabel operands.now) }
     ensures sets { IfOk result (SpellsFence text.now operands.now) }
+    ensures only { (before after : AnySet) → SpellsFence text.now operands.now (written.Fence (fence.Sets before after))
+        → Gives result (λ found. found ≡ written.Fence (fence.Sets before after)) }
 {
     if operands.is_empty() {
         return Ok(fence_of(EVERY_ACCESS, EVERY_ACCESS));
@@ -40,7 +46,9 @@ fn fence_of(before: AccessSet, after: AccessSet) -> Written
 
 /// Two sets of accesses, with a comma between.
 fn access_sets(text: &[u8], words: &[Word], end: usize) -> Result<(AccessSet, AccessSet), Stop>
-    ensures { IfOk result (λ p. SpellsSets text.now words.now p.0 p.1) }
+    ensures spelled { IfOk result (λ p. SpellsSets text.now words.now p.0 p.1) }
+    ensures only { (before after : AnySet) → SpellsSets text.now words.now before after
+        → Gives result (λ p. (p.0 ≡ before) × (p.1 ≡ after)) }
 {
     let (before, rest) = access_set(text, words, end)?;
     let (comma, rest) = next(rest, end)?;
@@ -58,7 +66,9 @@ fn access_set<'a>(
     words: &'a [Word],
     end: usize,
 ) -> Result<(AccessSet, &'a [Word]), Stop>
-    ensures { IfOk result (λ p. AccessesTaken text.now words.now p.0 p.1.now) }
+    ensures taken { IfOk result (λ p. AccessesTaken text.now words.now p.0 p.1.now) }
+    ensures only { (accesses : AnySet) → (rest : List AnyWord) → AccessesTaken text.now words.now accesses rest
+        → Gives result (λ p. (p.0 ≡ accesses) × (p.1.now ≡ rest)) }
 {
     let (word, rest) = next(words, end)?;
     let letters = bytes_of(text, word);
@@ -71,12 +81,17 @@ fn access_set<'a>(
     Ok((accesses_of(letters), rest))
 }
 
-fn are_accesses(letters: &[u8]) -> bool {
+fn are_accesses(letters: &[u8]) -> bool
+    ensures yes { result ≡ true → All (λ letter. is_access letter ≡ true) letters.now }
+    ensures no { result ≡ false → All (λ letter. is_access letter ≡ true) letters.now → ⊥ }
+{
     letters.iter().all(|letter| is_access(*letter))
 }
 
 /// Input, output, reads and writes.
-fn is_access(letter: u8) -> bool {
+fn is_access(letter: u8) -> bool
+    ensures { result ≡ is_access letter }
+{
     letter == b'i' || letter == b'o' || letter == b'r' || letter == b'w'
 }
 
@@ -94,7 +109,9 @@ fn accesses_of(letters: &[u8]) -> AccessSet
 
 /// `fence.tso`.
 pub(crate) fn total_store_order_fence(operands: &[Word]) -> Result<Written, Stop>
-    ensures { IfOk result (SpellsWritten name.TotalStoreOrderFence (tokens operands.now)) }
+    ensures spelled { IfOk result (SpellsWritten name.TotalStoreOrderFence (tokens operands.now)) }
+    ensures label { IfOk result (HasItsLabel operands.now) }
+    ensures only { tokens operands.now ≡ [] → Gives result (λ found. found ≡ written.Fence fence.TotalStoreOrder) }
 {
     nothing(operands, Fault::NotOfSubset)?;
     Ok(Written::Fence(Fence::TotalStoreOrder))

@@ -1,6 +1,7 @@
 //! What stands before the braces: `RISCV` and the name of the test, a string, and lines `Key=..`.
 
-ghost use Rattle.std.specs.Prelude.{◌≡◌, ◌≤◌, ◌<◌, length, slice_index, slice_range, true, IfOk};
+ghost use Rattle.std.specs.Prelude.{◌≡◌, ◌≤◌, ◌<◌, ℕ, Bool, List, length, slice_index, slice_range, true, IfOk};
+ghost use Rattle.litmus_words.specs.Answered.{Gives};
 ghost use Rattle.litmus_reading.specs.Heads.{
   IsHeadOf,
   IsKeyLine,
@@ -28,6 +29,8 @@ pub(crate) fn read_head(text: &[u8]) -> Result<Head, Stop>
     ensures braces { IfOk result (λ head. head.braces ≤ length text.now) }
     ensures head { IfOk result (λ head.
         IsHeadOf text.now (slice_range text.now head.name_start head.name_end) head.braces) }
+    ensures only { (name : List ℕ) → (braces : ℕ) → IsHeadOf text.now name braces → Gives result (λ head.
+        (slice_range text.now head.name_start head.name_end ≡ name) × (head.braces ≡ braces)) }
 {
     let at = skip_blanks(text, 0)?;
     let end = name_end(text, at);
@@ -81,6 +84,7 @@ fn skip_metadata(text: &[u8], from: usize) -> Result<usize, Stop>
     requires { from ≤ length text.now }
     ensures inside { IfOk result (λ at. at ≤ length text.now) }
     ensures metadata { IfOk result (IsMetadata text.now true from) }
+    ensures only { (to : ℕ) → IsMetadata text.now true from to → Gives result (λ at. at ≡ to) }
 {
     let mut may_quote = true;
     let mut at = from;
@@ -99,6 +103,8 @@ fn part_end(text: &[u8], may_quote: bool, at: usize) -> Result<(usize, bool), St
     ensures on { IfOk result (λ p. at < p.0) }
     ensures inside { IfOk result (λ p. p.0 ≤ length text.now) }
     ensures part { IfOk result (λ p. IsPart text.now may_quote at p.1 p.0) }
+    ensures only { (left : Bool) → (behind : ℕ) → IsPart text.now may_quote at left behind
+        → Gives result (λ p. (p.0 ≡ behind) × (p.1 ≡ left)) }
 {
     if may_quote {
         if text[at] == b'"' {
@@ -117,6 +123,7 @@ fn string_end(text: &[u8], from: usize) -> Result<usize, Stop>
     ensures on { IfOk result (λ at. from < at) }
     ensures inside { IfOk result (λ at. at ≤ length text.now) }
     ensures string { IfOk result (IsString text.now from) }
+    ensures only { (to : ℕ) → IsString text.now from to → Gives result (λ at. at ≡ to) }
 {
     for at in from + 1..text.len() {
         if text[at] == b'"' {
@@ -132,6 +139,7 @@ fn metadata_end(text: &[u8], from: usize) -> Result<usize, Stop>
     ensures on { IfOk result (λ at. from < at) }
     ensures inside { IfOk result (λ at. at ≤ length text.now) }
     ensures line { IfOk result (IsKeyLine text.now from) }
+    ensures only { (to : ℕ) → IsKeyLine text.now from to → Gives result (λ at. at ≡ to) }
 {
     let end = name_end(text, from);
     if end <= from || end >= text.len() {

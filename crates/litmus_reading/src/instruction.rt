@@ -1,13 +1,30 @@
 //! One instruction.
 
-ghost use Rattle.std.specs.Prelude.{◌≡◌, IfOk, pos};
+ghost use Rattle.std.specs.Prelude.{◌≡◌, ◌≤◌, ◌<◌, ◌*◌, [], ℕ, pos, IfOk, IfErr, OnOk};
+ghost use Rattle.litmus_words.specs.Answered.{Gives};
+ghost use Rattle.litmus_words.specs.declared.word.Word.{Word as AnyWord};
+ghost use Rattle.litmus_tests.specs.Limits.{most_locations};
 ghost use Rattle.litmus_words.specs.Tokens.{tokens};
-ghost use Rattle.litmus_reading.specs.Instructions.{SpellsInstruction, SpellsWritten, SpellsStraight, SpellsRow};
+ghost use Rattle.litmus_reading.specs.Instructions.{
+  pair,
+  HasItsLabel,
+  IsLastLabel,
+  SpellsBranch,
+  SpellsConstant,
+  SpellsInstruction,
+  SpellsLoadAddress,
+  SpellsRow,
+  SpellsStraight,
+  SpellsWritten,
+};
 ghost use Rattle.litmus_words.specs.declared.mnemonic.Mnemonic.TheVariants as name;
 ghost use Rattle.rv_instr.specs.declared.instr.Instr.TheVariants as instr;
 ghost use Rattle.rv_instr.specs.declared.instr.ImmediateOp.TheVariants as immediate_op;
+ghost use Rattle.rv_instr.specs.declared.instr.Instr.{Instr as AnyInstruction};
+ghost use Rattle.rv_instr.specs.declared.instr.BranchOp.{BranchOp as AnyBranch};
 ghost use Rattle.rv_instr.specs.declared.instr.BranchOp.TheVariants.{Beq};
-ghost use Rattle.litmus_reading.specs.declared.instruction.Written.TheVariants.{Branch};
+ghost use Rattle.litmus_reading.specs.declared.instruction.Written.{Written as AnyWritten};
+ghost use Rattle.litmus_reading.specs.declared.instruction.Written.TheVariants.{Branch, Constant};
 ghost use Rattle.litmus_tests.specs.Conditions.{number_of};
 ghost use Rattle.litmus_tests.specs.declared.value.Value.TheVariants.{Address};
 
@@ -43,7 +60,9 @@ pub(crate) enum Written {
 
 /// The instruction that these words are.
 pub(crate) fn read_instruction(text: &[u8], words: &[Word], end: usize) -> Result<Written, Stop>
-    ensures { IfOk result (SpellsInstruction words.now) }
+    ensures spelled { IfOk result (SpellsInstruction text.now words.now) }
+    ensures only { (written : AnyWritten) → SpellsInstruction text.now words.now written
+        → Gives result (λ found. found ≡ written) }
 {
     let (name, operands) = next(words, end)?;
     let Token::Mnemonic(mnemonic) = name.token else {
@@ -69,7 +88,10 @@ pub(crate) fn read_instruction(text: &[u8], words: &[Word], end: usize) -> Resul
 
 /// `li x5,1`.
 fn constant(operands: &[Word], end: usize) -> Result<Written, Stop>
-    ensures { IfOk result (SpellsWritten name.Constant (tokens operands.now)) }
+    ensures spelled { IfOk result (SpellsWritten name.Constant (tokens operands.now)) }
+    ensures label { IfOk result (HasItsLabel operands.now) }
+    ensures only { (register value : ℕ) → SpellsConstant (tokens operands.now) register value
+        → Gives result (λ found. found ≡ Constant register value) }
 {
     let (register, rest) = register(operands, end)?;
     let rest = mark(rest, Mark::Comma, end)?;
@@ -80,7 +102,10 @@ fn constant(operands: &[Word], end: usize) -> Result<Written, Stop>
 
 /// `la x5,x`: as `li` of the address.
 fn load_address(operands: &[Word], end: usize) -> Result<Written, Stop>
-    ensures { IfOk result (SpellsWritten name.LoadAddress (tokens operands.now)) }
+    ensures spelled { IfOk result (SpellsWritten name.LoadAddress (tokens operands.now)) }
+    ensures label { IfOk result (HasItsLabel operands.now) }
+    ensures only { (register value : ℕ) → SpellsLoadAddress (tokens operands.now) register value
+        → Gives result (λ found. found ≡ Constant register value) }
 {
     let (register, rest) = register(operands, end)?;
     let rest = mark(rest, Mark::Comma, end)?;
@@ -92,7 +117,9 @@ fn load_address(operands: &[Word], end: usize) -> Result<Written, Stop>
 
 /// The address of a byte of the locations.
 fn address_of(byte: usize, at: usize) -> Result<u32, Stop>
-    ensures { IfOk result (λ value. value ≡ number_of (Address byte)) }
+    ensures number { IfOk result (λ value. value ≡ number_of (Address byte)) }
+    ensures there { OnOk result (byte < 4 * most_locations) }
+    ensures refused { IfErr result (λ _. 4 * most_locations ≤ byte) }
 {
     if byte >= 4 * MOST_LOCATIONS {
         return Err(Stop::at(at, Fault::NoElement));
@@ -102,7 +129,11 @@ fn address_of(byte: usize, at: usize) -> Result<u32, Stop>
 
 /// `bne x5,x6,L0`.
 fn branch(op: BranchOp, operands: &[Word], end: usize) -> Result<Written, Stop>
-    ensures { IfOk result (SpellsWritten (name.Branch op) (tokens operands.now)) }
+    ensures spelled { IfOk result (SpellsWritten (name.Branch op) (tokens operands.now)) }
+    ensures label { IfOk result (HasItsLabel operands.now) }
+    ensures only { (op' : AnyBranch) → (left right : ℕ) → (label : AnyWord)
+        → SpellsBranch (name.Branch op) (tokens operands.now) (Branch op' left right label) → IsLastLabel operands.now label
+        → Gives result (λ found. found ≡ Branch op' left right label) }
 {
     let (left, right, label) = registers_label(operands, end)?;
     Ok(Written::Branch {
@@ -115,7 +146,11 @@ fn branch(op: BranchOp, operands: &[Word], end: usize) -> Result<Written, Stop>
 
 /// `bgt x5,x6,L0`: `blt x6,x5,L0`.
 fn swapped_branch(op: BranchOp, operands: &[Word], end: usize) -> Result<Written, Stop>
-    ensures { IfOk result (SpellsWritten (name.SwappedBranch op) (tokens operands.now)) }
+    ensures spelled { IfOk result (SpellsWritten (name.SwappedBranch op) (tokens operands.now)) }
+    ensures label { IfOk result (HasItsLabel operands.now) }
+    ensures only { (op' : AnyBranch) → (left right : ℕ) → (label : AnyWord)
+        → SpellsBranch (name.SwappedBranch op) (tokens operands.now) (Branch op' left right label) → IsLastLabel operands.now label
+        → Gives result (λ found. found ≡ Branch op' left right label) }
 {
     let (right, left, label) = registers_label(operands, end)?;
     Ok(Written::Branch {
@@ -128,7 +163,11 @@ fn swapped_branch(op: BranchOp, operands: &[Word], end: usize) -> Result<Written
 
 /// `bnez x5,L0`.
 fn branch_zero(op: BranchOp, operands: &[Word], end: usize) -> Result<Written, Stop>
-    ensures { IfOk result (SpellsWritten (name.BranchZero op) (tokens operands.now)) }
+    ensures spelled { IfOk result (SpellsWritten (name.BranchZero op) (tokens operands.now)) }
+    ensures label { IfOk result (HasItsLabel operands.now) }
+    ensures only { (op' : AnyBranch) → (left right : ℕ) → (label : AnyWord)
+        → SpellsBranch (name.BranchZero op) (tokens operands.now) (Branch op' left right label) → IsLastLabel operands.now label
+        → Gives result (λ found. found ≡ Branch op' left right label) }
 {
     let (left, label) = register_label(operands, end)?;
     Ok(Written::Branch {
@@ -141,7 +180,11 @@ fn branch_zero(op: BranchOp, operands: &[Word], end: usize) -> Result<Written, S
 
 /// `bgtz x5,L0`: `blt x0,x5,L0`.
 fn zero_branch(op: BranchOp, operands: &[Word], end: usize) -> Result<Written, Stop>
-    ensures { IfOk result (SpellsWritten (name.ZeroBranch op) (tokens operands.now)) }
+    ensures spelled { IfOk result (SpellsWritten (name.ZeroBranch op) (tokens operands.now)) }
+    ensures label { IfOk result (HasItsLabel operands.now) }
+    ensures only { (op' : AnyBranch) → (left right : ℕ) → (label : AnyWord)
+        → SpellsBranch (name.ZeroBranch op) (tokens operands.now) (Branch op' left right label) → IsLastLabel operands.now label
+        → Gives result (λ found. found ≡ Branch op' left right label) }
 {
     let (right, label) = register_label(operands, end)?;
     Ok(Written::Branch {
@@ -154,7 +197,11 @@ fn zero_branch(op: BranchOp, operands: &[Word], end: usize) -> Result<Written, S
 
 /// `j L0`: `beq x0,x0,L0`.
 fn jump(operands: &[Word], end: usize) -> Result<Written, Stop>
-    ensures { IfOk result (SpellsWritten name.Jump (tokens operands.now)) }
+    ensures spelled { IfOk result (SpellsWritten name.Jump (tokens operands.now)) }
+    ensures label { IfOk result (HasItsLabel operands.now) }
+    ensures only { (op' : AnyBranch) → (left right : ℕ) → (label : AnyWord)
+        → SpellsBranch name.Jump (tokens operands.now) (Branch op' left right label) → IsLastLabel operands.now label
+        → Gives result (λ found. found ≡ Branch op' left right label) }
 {
     let label = last_label(operands, end)?;
     Ok(jump_to(label))
@@ -163,7 +210,11 @@ fn jump(operands: &[Word], end: usize) -> Result<Written, Stop>
 /// `jal x0,L0`, which is `j L0`. Another register would hold the address of the instruction behind it, and a test has no
 /// addresses of code.
 fn jump_and_link(operands: &[Word], end: usize) -> Result<Written, Stop>
-    ensures { IfOk result (SpellsWritten name.JumpAndLink (tokens operands.now)) }
+    ensures spelled { IfOk result (SpellsWritten name.JumpAndLink (tokens operands.now)) }
+    ensures label { IfOk result (HasItsLabel operands.now) }
+    ensures only { (op' : AnyBranch) → (left right : ℕ) → (label : AnyWord)
+        → SpellsBranch name.JumpAndLink (tokens operands.now) (Branch op' left right label) → IsLastLabel operands.now label
+        → Gives result (λ found. found ≡ Branch op' left right label) }
 {
     let (link, label) = register_label(operands, end)?;
     if link != 0 {
@@ -186,7 +237,9 @@ fn jump_to(label: Word) -> Written
 
 /// The instructions behind which the hart goes on, but for `li`, `la` and fences.
 fn straight(mnemonic: Mnemonic, operands: &[Word], end: usize) -> Result<Instr, Stop>
-    ensures { IfOk result (SpellsStraight mnemonic (tokens operands.now)) }
+    ensures spelled { IfOk result (SpellsStraight mnemonic (tokens operands.now)) }
+    ensures only { (instruction : AnyInstruction) → SpellsStraight mnemonic (tokens operands.now) instruction
+        → Gives result (λ found. found ≡ instruction) }
 {
     match mnemonic {
         Mnemonic::Row(row) => of_row(row, operands, end),
@@ -197,21 +250,27 @@ fn straight(mnemonic: Mnemonic, operands: &[Word], end: usize) -> Result<Instr, 
 }
 
 fn of_row(row: Row, operands: &[Word], end: usize) -> Result<Instr, Stop>
-    ensures { IfOk result (SpellsRow row (tokens operands.now)) }
+    ensures spelled { IfOk result (SpellsRow row (tokens operands.now)) }
+    ensures only { (instruction : AnyInstruction) → SpellsRow row (tokens operands.now) instruction
+        → Gives result (λ found. found ≡ instruction) }
 {
     let operands = operands_of(row, operands, end)?;
     Ok(instr_with(row, operands))
 }
 
 fn move_register(operands: &[Word], end: usize) -> Result<Instr, Stop>
-    ensures { IfOk result (SpellsStraight name.Move (tokens operands.now)) }
+    ensures spelled { IfOk result (SpellsStraight name.Move (tokens operands.now)) }
+    ensures only { (rd rs1 : ℕ) → tokens operands.now ≡ pair rd rs1
+        → Gives result (λ found. found ≡ instr.Immediate immediate_op.Addi rd rs1 (pos 0)) }
 {
     let (rd, rs1) = two_registers(operands, end)?;
     Ok(addition(rd, rs1))
 }
 
 fn no_operation(operands: &[Word]) -> Result<Instr, Stop>
-    ensures { IfOk result (SpellsStraight name.Nothing (tokens operands.now)) }
+    ensures spelled { IfOk result (SpellsStraight name.Nothing (tokens operands.now)) }
+    ensures only { tokens operands.now ≡ []
+        → Gives result (λ found. found ≡ instr.Immediate immediate_op.Addi 0 0 (pos 0)) }
 {
     nothing(operands, Fault::NotOfSubset)?;
     Ok(addition(0, 0))

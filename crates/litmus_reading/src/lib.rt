@@ -11,11 +11,12 @@
 //!
 //! Proved: a test that is read is well formed, and is the one that its text says (`specs/Texts`): its name (`Heads`), the
 //! locations and arrays that the braces declare and where they stand (`Declarations`, `Names`), what they and the
-//! registers hold at the start (`Starts`, `Memory`), the instructions of each hart, with its labels (`Rows`, `Threads`,
-//! `Instructions`, `Fences`), the filter and the question (`Questions`, `Grammar`), and what is looked at (`Looked`). What
-//! is refused is refused at a place of the text. Only tested: to which of several labels a branch goes (of its word the
-//! kind alone is told) and the sets of a fence, that nothing is refused that is a test, which fault is told where, and
-//! that numbers and addresses fit the types for which they are given.
+//! registers hold at the start (`Starts`, `Memory`) and that it fits there (`Fitting`), the instructions of each hart, with
+//! the labels of its branches and the sets of its fences (`Rows`, `Threads`, `Instructions`, `Fences`), the filter and the
+//! question (`Questions`, `Grammar`), and what is looked at (`Looked`). A text that is a well-formed test's is read as that
+//! test (`Same`), unless there is no memory: so a text has one test, and is refused only where it has none. What is refused
+//! is refused at a place of the text. Only tested: which fault is told, and that it is told at the first word that no test
+//! has there.
 //!
 //! Read in this order, behind `litmus_words`: `head` (what stands before the braces), `declarations` (of which types
 //! locations are), `locations` (which there are, and where), `fitting` (what fits in a type), `contents` (what an entry

@@ -1,7 +1,11 @@
 //! The names of locations: those that stand in the braces, and where each stands in memory.
 
-ghost use Rattle.std.specs.Prelude.{◌≡◌, ◌≤◌, ◌+◌, ◌*◌, [], map, IfOk};
+ghost use Rattle.std.specs.Prelude.{◌≡◌, ◌≢◌, ◌≤◌, ◌+◌, ◌*◌, [], map, unwrap_or, All, IfOk, OnOk};
+ghost use Rattle.litmus_tests.specs.Limits.{most_locations};
 ghost use Rattle.watched_outcomes.specs.Watching.{bytes_of};
+ghost use Rattle.litmus_words.specs.Answered.{Gives, GivesOrMemory};
+ghost use Rattle.litmus_words.specs.Bytes.{bytes_in};
+ghost use Rattle.litmus_reading.specs.Memory.{word_total};
 ghost use Rattle.litmus_reading.specs.Names.{
   behind,
   declared_at,
@@ -9,8 +13,10 @@ ghost use Rattle.litmus_reading.specs.Names.{
   is_new,
   located_word,
   declared_of,
+  names_in,
   new_names,
   start_of_memory,
+  IsNewLocation,
 };
 
 use crate::declarations::{Declaration, declaration_of};
@@ -36,26 +42,33 @@ pub(crate) struct Beginning {
 /// The names in these words, each where it stands first. Each location and each array begins a word of memory, one
 /// behind the other.
 pub(crate) fn locations_in(text: &[u8], words: &[Word], alloc: Global) -> Result<Vec<Named>, Stop>
-    ensures { IfOk result (λ names. names.items ≡ new_names text.now words.now [] start_of_memory words.now) }
+    ensures names { IfOk result (λ names. names.items ≡ new_names text.now words.now [] start_of_memory words.now) }
+    ensures named { IfOk result (λ names. All (IsNewLocation text.now) names.items) }
+    ensures only { All (IsNewLocation text.now) (names_in text.now words.now)
+        → word_total (names_in text.now words.now) ≤ most_locations → GivesOrMemory result (λ _. Unit {0}) }
 {
     let mut names = Vec::new(alloc);
     let mut next = Beginning { first: 0, byte: 0 };
     for word in words {
-        if is_new(text, names.as_slice(), *word) {
-            check_name(text, *word)?;
-            let declared = declared_at(next, declaration_of(text, words, *word), word.start)?;
-            names.push(Named {
-                word: *word,
-                declared,
-            })?;
-            next = behind(declared);
+        if !is_new(text, names.as_slice(), *word) {
+            continue;
         }
+        check_name(text, *word)?;
+        let declared = declared_at(next, declaration_of(text, words, *word), word.start)?;
+        names.push(Named {
+            word: *word,
+            declared,
+        })?;
+        next = behind(declared);
     }
     Ok(names)
 }
 
 /// Refuses a name that no location may have.
-fn check_name(text: &[u8], word: Word) -> Result<(), Stop> {
+fn check_name(text: &[u8], word: Word) -> Result<(), Stop>
+    ensures named { OnOk result (All (λ byte. byte ≢ 46) (bytes_in text.now word)) }
+    ensures only { All (λ byte. byte ≢ 46) (bytes_in text.now word) → Gives result (λ _. Unit {0}) }
+{
     if bytes_of(text, word).contains(&b'.') {
         return Err(Stop::at(word.start, Fault::NotOfSubset));
     }
@@ -64,21 +77,23 @@ fn check_name(text: &[u8], word: Word) -> Result<(), Stop> {
 
 /// What begins there and is declared so. More words than there may be are refused at this byte.
 fn declared_at(next: Beginning, declaration: Declaration, at: usize) -> Result<Declared, Stop>
+    requires { (next.first ≤ next.byte) × (next.byte ≤ 256) }
     ensures is { IfOk result (λ declared. declared ≡ declared_at next declaration) }
-    ensures small { IfOk result (λ declared. (declared.first ≤ 256) × (declared.byte ≤ 256) × (declared.size ≤ 256)) }
+    ensures small { IfOk result (λ declared. declared.byte + declared.size ≤ 256) }
+    ensures only { next.byte + unwrap_or declaration.elements 1 * bytes_of declaration.number_type.width ≤ 256
+        → Gives result (λ _. Unit {0}) }
 {
     let size = size_of(
         declaration.number_type.width,
         declaration.elements.unwrap_or(1),
     );
-    let room = (4 * MOST_LOCATIONS).saturating_sub(next.byte);
-    if size > room || room == 0 || next.first > 4 * MOST_LOCATIONS {
+    if size > 4 * MOST_LOCATIONS - next.byte {
         return Err(Stop::at(at, Fault::TooManyLocations));
     }
     Ok(Declared {
-        first: next.first,
-        byte: next.byte,
-        size,
+        first: next.first as u16,
+        byte: next.byte as u16,
+        size: size as u16,
         number_type: declaration.number_type,
         is_array: declaration.elements.is_some(),
     })
@@ -96,7 +111,7 @@ fn size_of(width: Width, count: u32) -> usize
 }
 
 /// How many elements a location or an array has.
-pub(crate) fn elements_of(declared: Declared) -> usize
+pub(crate) fn elements_of(declared: Declared) -> u16
     ensures value { result ≡ elements_of declared }
     ensures few { result ≤ declared.size }
 {
@@ -108,33 +123,28 @@ pub(crate) fn elements_of(declared: Declared) -> usize
 }
 
 /// The index of an element among the locations.
-pub(crate) fn index_of(declared: Declared, element: usize) -> Result<usize, Stop>
-    ensures { IfOk result (λ index. index ≡ declared.first + element) }
+pub(crate) fn index_of(declared: Declared, element: u16) -> usize
+    ensures { result ≡ declared.first + element }
 {
-    if declared.first > usize::MAX - element {
-        return Err(Stop::at(0, Fault::NoElement));
-    }
-    Ok(declared.first + element)
+    declared.first as usize + element as usize
 }
 
 /// Where the next location begins: at a word.
 fn behind(declared: Declared) -> Beginning
-    requires { (declared.first ≤ 256) × (declared.byte ≤ 256) × (declared.size ≤ 256) }
-    ensures { result ≡ behind declared }
+    ensures is { result ≡ behind declared }
+    ensures order { declared.first ≤ declared.byte → result.first ≤ result.byte }
+    ensures inside { declared.byte + declared.size ≤ 256 → result.byte ≤ 256 }
 {
     Beginning {
-        first: declared.first + elements_of(declared),
-        byte: (declared.byte + declared.size + 3) / 4 * 4,
+        first: index_of(declared, elements_of(declared)),
+        byte: (declared.byte as usize + declared.size as usize + 3) / 4 * 4,
     }
 }
 
 /// How many locations these names are, each element of an array one.
 pub(crate) fn count_of(names: &[Named]) -> usize {
     match names.last() {
-        Some(last) => last
-            .declared
-            .first
-            .saturating_add(elements_of(last.declared)),
+        Some(last) => index_of(last.declared, elements_of(last.declared)),
         None => 0,
     }
 }
@@ -168,7 +178,8 @@ pub(crate) fn located(
     names: &[Named],
     alloc: Global,
 ) -> Result<Vec<Word>, Stop>
-    ensures { IfOk result (λ all. all.items ≡ map (located_word text.now names.now) words.now) }
+    ensures located { IfOk result (λ all. all.items ≡ map (located_word text.now names.now) words.now) }
+    ensures only { GivesOrMemory result (λ _. Unit {0}) }
 {
     let mut all = Vec::new(alloc);
     for word in words {

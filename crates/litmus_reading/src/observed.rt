@@ -1,7 +1,9 @@
 //! What tells final states apart: what is listed, and what the terms of the filter and of the condition look at, in
 //! order.
 
-ghost use Rattle.std.specs.Prelude.{◌≡◌, ◌++◌, ◌∷◌, [], IfOk, OnOk};
+ghost use Rattle.std.specs.Prelude.{◌≡◌, ◌≤◌, ◌++◌, ◌∷◌, [], length, IfOk, OnOk};
+ghost use Rattle.litmus_tests.specs.Limits.{most_observed};
+ghost use Rattle.litmus_words.specs.Answered.{GivesOrMemory};
 ghost use Rattle.litmus_reading.specs.Looked.{
   is_listed,
   is_named,
@@ -28,8 +30,10 @@ pub(crate) fn observed_of(
     at: usize,
     alloc: Global,
 ) -> Result<Vec<Observed>, Stop>
-    ensures { IfOk result (λ observed. observed.items ≡ looked_at question.now.condition
+    ensures looked { IfOk result (λ observed. observed.items ≡ looked_at question.now.condition
         question.now.filter question.now.listed.observed.items harts locations) }
+    ensures only { length (looked_at question.now.condition question.now.filter
+        question.now.listed.observed.items harts locations) ≤ most_observed → GivesOrMemory result (λ _. Unit {0}) }
 {
     let mut observed = Vec::new(alloc);
     for hart in 0..harts {
@@ -46,8 +50,11 @@ fn add_registers(
     observed: &mut Vec<Observed>,
     at: usize,
 ) -> Result<(), Stop>
-    ensures { OnOk result (observed.new.items ≡ observed.old.items ++ those_named question.now.condition
+    ensures added { OnOk result (observed.new.items ≡ observed.old.items ++ those_named question.now.condition
         question.now.filter question.now.listed.observed.items (registers_from 31 hart 1)) }
+    ensures only { length (observed.old.items ++ those_named question.now.condition question.now.filter
+        question.now.listed.observed.items (registers_from 31 hart 1)) ≤ most_observed
+        → GivesOrMemory result (λ _. Unit {0}) }
 {
     for register in 1..32 {
         add_named(
@@ -67,8 +74,11 @@ fn add_locations(
     observed: &mut Vec<Observed>,
     at: usize,
 ) -> Result<(), Stop>
-    ensures { OnOk result (observed.new.items ≡ observed.old.items ++ those_named question.now.condition
+    ensures added { OnOk result (observed.new.items ≡ observed.old.items ++ those_named question.now.condition
         question.now.filter question.now.listed.observed.items (elements_from locations 0)) }
+    ensures only { length (observed.old.items ++ those_named question.now.condition question.now.filter
+        question.now.listed.observed.items (elements_from locations 0)) ≤ most_observed
+        → GivesOrMemory result (λ _. Unit {0}) }
 {
     for index in 0..locations {
         add_named(question, Observed::Location(index), observed, at)?;
@@ -83,8 +93,11 @@ fn add_named(
     observed: &mut Vec<Observed>,
     at: usize,
 ) -> Result<(), Stop>
-    ensures { OnOk result (observed.new.items ≡ observed.old.items ++ those_named question.now.condition
+    ensures added { OnOk result (observed.new.items ≡ observed.old.items ++ those_named question.now.condition
         question.now.filter question.now.listed.observed.items (one ∷ [])) }
+    ensures only { length (observed.old.items ++ those_named question.now.condition question.now.filter
+        question.now.listed.observed.items (one ∷ [])) ≤ most_observed
+        → GivesOrMemory result (λ _. Unit {0}) }
 {
     if !is_named(question, one) {
         return Ok(());

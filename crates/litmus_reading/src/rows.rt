@@ -1,8 +1,11 @@
 //! The harts, and the rows below them.
 
-ghost use Rattle.std.specs.Prelude.{◌≡◌, ◌≤◌, ◌+◌, ◌∷◌, List, length, IfOk, OnOk};
+ghost use Rattle.std.specs.Prelude.{◌≡◌, ◌≤◌, ◌+◌, ◌∷◌, List, ℕ, All, true, false, length, IfOk, OnOk};
 ghost use Rattle.litmus_words.specs.declared.word.Word.{Word as AnyWord};
-ghost use Rattle.litmus_reading.specs.Rows.{cell_at, is_bar, parted_by};
+ghost use Rattle.litmus_words.specs.Answered.{Gives};
+ghost use Rattle.numbers.specs.Sizes.{most_harts};
+ghost use Rattle.litmus_reading.specs.Declarations.{begins};
+ghost use Rattle.litmus_reading.specs.Rows.{cell_at, ended_by, is_asking, is_bar, is_semicolon, parted_by};
 ghost use Rattle.litmus_reading.specs.Texts.{IsHead, IsHeadRow, IsTable};
 
 use litmus_words::{Fault, Mark, Stop, Token, Word, cut, is_mark, start_of};
@@ -10,7 +13,9 @@ use numbers::sizes::HART_ROOM;
 
 /// Reads `P0 | P1 ;`: how many harts there are, and the words behind.
 pub(crate) fn read_harts(words: &[Word], end: usize) -> Result<(u8, &[Word]), Stop>
-    ensures { IfOk result (λ p. IsHeadRow words.now p.0 p.1.now) }
+    ensures row { IfOk result (λ p. IsHeadRow words.now p.0 p.1.now) }
+    ensures only { (harts : ℕ) → (behind : List AnyWord) → IsHeadRow words.now harts behind → harts ≤ most_harts
+        → Gives result (λ p. (p.0 ≡ harts) × (p.1.now ≡ behind)) }
 {
     let (row, behind) = cut(words, Mark::Semicolon);
     if row.len() == words.len() {
@@ -30,7 +35,8 @@ pub(crate) fn read_harts(words: &[Word], end: usize) -> Result<(u8, &[Word]), St
 
 /// Refuses a word that doesn't belong at this place of the row of harts: they have a bar between.
 fn check_head(place: usize, word: Word) -> Result<(), Stop>
-    ensures { OnOk result (IsHead place word.token) }
+    ensures head { OnOk result (IsHead place word.token) }
+    ensures only { IsHead place word.token → Gives result (λ _. Unit {0}) }
 {
     if place % 2 == 1 {
         if is_mark(word, Mark::Bar) {
@@ -46,7 +52,9 @@ fn check_head(place: usize, word: Word) -> Result<(), Stop>
 
 /// The rows, with a column for each of so many harts and a `;` behind each, and the words behind them.
 pub(crate) fn rows_of(words: &[Word], harts: u8, end: usize) -> Result<(&[Word], &[Word]), Stop>
-    ensures { IfOk result (λ p. IsTable harts words.now p.0.now p.1.now) }
+    ensures table { IfOk result (λ p. IsTable harts words.now p.0.now p.1.now) }
+    ensures only { (rows asked : List AnyWord) → IsTable harts words.now rows asked
+        → begins is_asking asked ≡ true → Gives result (λ p. (p.0.now ≡ rows) × (p.1.now ≡ asked)) }
 {
     let mut rest = words;
     while !asks(rest) {
@@ -64,7 +72,9 @@ pub(crate) fn rows_of(words: &[Word], harts: u8, end: usize) -> Result<(&[Word],
 }
 
 /// Whether what comes next is no row.
-pub(crate) fn asks(words: &[Word]) -> bool {
+pub(crate) fn asks(words: &[Word]) -> bool
+    ensures { result ≡ begins is_asking words.now }
+{
     let Some(word) = words.first() else {
         return false;
     };

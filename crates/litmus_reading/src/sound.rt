@@ -1,7 +1,7 @@
 //! Whether a test makes sense: what it names is there, and there isn't too much of anything. It is asked of each
 //! test that was read, so nobody has to rely on how it was read.
 
-ghost use Rattle.std.specs.Prelude.{◌≡◌, ◌≤◌, true, length, sum_by, All};
+ghost use Rattle.std.specs.Prelude.{◌≡◌, ◌≤◌, true, false, length, sum_by, All};
 ghost use Rattle.numbers.specs.Sizes.{most_harts};
 ghost use Rattle.litmus_tests.specs.Limits.{most_locations};
 ghost use Rattle.rv_instr.specs.Table.{IsInstructionInRange, IsSigned};
@@ -32,7 +32,8 @@ const MOST_STARTS: usize = 31;
 
 /// Whether a test makes sense.
 pub(crate) fn makes_sense(test: &LitmusTest) -> bool
-    ensures { result ≡ true → IsWellFormed test.now }
+    ensures sound { result ≡ true → IsWellFormed test.now }
+    ensures only { IsWellFormed test.now → result ≡ true }
 {
     let (harts, words) = (test.threads.len(), test.words.len());
     if harts < 1 || harts > HART_ROOM || words > MOST_LOCATIONS {
@@ -65,7 +66,8 @@ pub(crate) fn makes_sense(test: &LitmusTest) -> bool
 
 fn are_initials(words: &[Value]) -> bool
     requires { length words.now ≤ most_locations }
-    ensures { result ≡ true → All (IsValue (length words.now)) words.now }
+    ensures yes { result ≡ true → All (IsValue (length words.now)) words.now }
+    ensures no { result ≡ false → All (IsValue (length words.now)) words.now → ⊥ }
 {
     for word in words {
         if !is_value(*word, words.len()) {
@@ -77,7 +79,8 @@ fn are_initials(words: &[Value]) -> bool
 
 fn are_locations(locations: &[Location], words: usize) -> bool
     requires { words ≤ most_locations }
-    ensures { result ≡ true → All (IsLocation words) locations.now }
+    ensures yes { result ≡ true → All (IsLocation words) locations.now }
+    ensures no { result ≡ false → All (IsLocation words) locations.now → ⊥ }
 {
     for location in locations {
         if !is_location(location, words) {
@@ -89,7 +92,8 @@ fn are_locations(locations: &[Location], words: usize) -> bool
 
 fn is_location(location: &Location, words: usize) -> bool
     requires { words ≤ most_locations }
-    ensures { result ≡ true → IsLocation words location.now }
+    ensures yes { result ≡ true → IsLocation words location.now }
+    ensures no { result ≡ false → IsLocation words location.now → ⊥ }
 {
     let size = usize::from(location.number_type.width.bytes());
     let room = 4 * words;
@@ -101,7 +105,8 @@ fn is_location(location: &Location, words: usize) -> bool
 
 fn are_threads(threads: &[Thread], words: usize) -> bool
     requires { words ≤ most_locations }
-    ensures { result ≡ true → All (IsThread words) threads.now }
+    ensures yes { result ≡ true → All (IsThread words) threads.now }
+    ensures no { result ≡ false → All (IsThread words) threads.now → ⊥ }
 {
     for thread in threads {
         if !is_thread(thread, words) {
@@ -115,7 +120,8 @@ fn are_threads(threads: &[Thread], words: usize) -> bool
 fn are_short(threads: &[Thread], locations: usize) -> bool
     requires few { length threads.now ≤ most_harts }
     requires sound { All (IsThread locations) threads.now }
-    ensures { result ≡ true → sum_by thread_length threads.now ≤ 16000 }
+    ensures yes { result ≡ true → sum_by thread_length threads.now ≤ 16000 }
+    ensures no { result ≡ false → sum_by thread_length threads.now ≤ 16000 → ⊥ }
 {
     let mut words = 0;
     for hart in 0..threads.len() {
@@ -125,7 +131,8 @@ fn are_short(threads: &[Thread], locations: usize) -> bool
 }
 
 fn are_observed(observed: &[Observed], harts: usize, locations: usize) -> bool
-    ensures { result ≡ true → All (IsObserved harts locations) observed.now }
+    ensures yes { result ≡ true → All (IsObserved harts locations) observed.now }
+    ensures no { result ≡ false → All (IsObserved harts locations) observed.now → ⊥ }
 {
     for one in observed {
         if !is_observed(*one, harts, locations) {
@@ -137,7 +144,8 @@ fn are_observed(observed: &[Observed], harts: usize, locations: usize) -> bool
 
 fn is_thread(thread: &Thread, words: usize) -> bool
     requires { words ≤ most_locations }
-    ensures { result ≡ true → IsThread words thread.now }
+    ensures yes { result ≡ true → IsThread words thread.now }
+    ensures no { result ≡ false → IsThread words thread.now → ⊥ }
 {
     if thread.starts.len() > MOST_STARTS || thread.steps.len() > MOST_STEPS {
         return false;
@@ -150,7 +158,8 @@ fn is_thread(thread: &Thread, words: usize) -> bool
 
 fn are_starts(starts: &[RegisterStart], words: usize) -> bool
     requires { words ≤ most_locations }
-    ensures { result ≡ true → All (IsStart words) starts.now }
+    ensures yes { result ≡ true → All (IsStart words) starts.now }
+    ensures no { result ≡ false → All (IsStart words) starts.now → ⊥ }
 {
     for start in starts {
         if !is_start(*start, words) {
@@ -161,7 +170,8 @@ fn are_starts(starts: &[RegisterStart], words: usize) -> bool
 }
 
 fn are_steps(steps: &[LitmusStep]) -> bool
-    ensures { result ≡ true → All (IsStep (length steps.now)) steps.now }
+    ensures yes { result ≡ true → All (IsStep (length steps.now)) steps.now }
+    ensures no { result ≡ false → All (IsStep (length steps.now)) steps.now → ⊥ }
 {
     for step in steps {
         if !is_step(*step, steps.len()) {
@@ -178,7 +188,8 @@ fn is_condition(
     observed: &[Observed],
 ) -> bool
     requires { words ≤ most_locations }
-    ensures { result ≡ true → IsCondition words locations.now observed.now condition.now }
+    ensures yes { result ≡ true → IsCondition words locations.now observed.now condition.now }
+    ensures no { result ≡ false → IsCondition words locations.now observed.now condition.now → ⊥ }
 {
     match condition {
         Condition::Always => true,
@@ -213,7 +224,8 @@ fn is_condition(
 
 fn is_term(term: Term, words: usize, locations: &[Location], observed: &[Observed]) -> bool
     requires { words ≤ most_locations }
-    ensures { result ≡ true → IsTerm words locations.now observed.now term }
+    ensures yes { result ≡ true → IsTerm words locations.now observed.now term }
+    ensures no { result ≡ false → IsTerm words locations.now observed.now term → ⊥ }
 {
     if !observed.contains(&term.observed) {
         return false;
@@ -226,7 +238,8 @@ fn is_term(term: Term, words: usize, locations: &[Location], observed: &[Observe
 
 fn is_value(value: Value, words: usize) -> bool
     requires { words ≤ most_locations }
-    ensures { result ≡ true → IsValue words value }
+    ensures yes { result ≡ true → IsValue words value }
+    ensures no { result ≡ false → IsValue words value → ⊥ }
 {
     match value {
         Value::Number(_) => true,
@@ -235,7 +248,8 @@ fn is_value(value: Value, words: usize) -> bool
 }
 
 fn is_observed(observed: Observed, harts: usize, locations: usize) -> bool
-    ensures { result ≡ true → IsObserved harts locations observed }
+    ensures yes { result ≡ true → IsObserved harts locations observed }
+    ensures no { result ≡ false → IsObserved harts locations observed → ⊥ }
 {
     match observed {
         Observed::Register { hart, register } => {
@@ -247,7 +261,8 @@ fn is_observed(observed: Observed, harts: usize, locations: usize) -> bool
 
 fn is_start(start: RegisterStart, words: usize) -> bool
     requires { words ≤ most_locations }
-    ensures { result ≡ true → IsStart words start }
+    ensures yes { result ≡ true → IsStart words start }
+    ensures no { result ≡ false → IsStart words start → ⊥ }
 {
     if start.register == 0 || start.register >= 32 {
         return false;
@@ -256,7 +271,8 @@ fn is_start(start: RegisterStart, words: usize) -> bool
 }
 
 fn is_step(step: LitmusStep, steps: usize) -> bool
-    ensures { result ≡ true → IsStep steps step }
+    ensures yes { result ≡ true → IsStep steps step }
+    ensures no { result ≡ false → IsStep steps step → ⊥ }
 {
     match step {
         LitmusStep::Straight(instr) => is_straight(instr),
@@ -273,7 +289,8 @@ fn is_step(step: LitmusStep, steps: usize) -> bool
 
 /// Whether an instruction is one of the subset, and in range.
 fn is_straight(instr: Instr) -> bool
-    ensures { result ≡ true → IsInstructionInRange instr × (is_straight instr ≡ true) }
+    ensures yes { result ≡ true → IsInstructionInRange instr × (is_straight instr ≡ true) }
+    ensures no { result ≡ false → (IsInstructionInRange instr × (is_straight instr ≡ true)) → ⊥ }
 {
     match instr {
         Instr::Load {
@@ -299,16 +316,23 @@ fn is_straight(instr: Instr) -> bool
         Instr::MulDiv { rd, rs1, rs2, .. } => rd < 32 && rs1 < 32 && rs2 < 32,
         Instr::Lui { rd, imm } => rd < 32 && imm % 4096 == 0,
         Instr::Fence => true,
+        Instr::InstructionFence => true,
         Instr::LoadReserved { rd, rs1, .. } => rd < 32 && rs1 < 32,
         Instr::StoreConditional { rd, rs1, rs2, .. } => rd < 32 && rs1 < 32 && rs2 < 32,
         Instr::Amo { rd, rs1, rs2, .. } => rd < 32 && rs1 < 32 && rs2 < 32,
-        _ => false,
+        Instr::Auipc { .. } => false,
+        Instr::Jal { .. } => false,
+        Instr::Jalr { .. } => false,
+        Instr::Branch { .. } => false,
+        Instr::Ecall => false,
+        Instr::Ebreak => false,
     }
 }
 
 /// Whether a number fits in twelve bits.
 fn is_short(number: i32) -> bool
-    ensures { result ≡ true → IsSigned 12 number }
+    ensures yes { result ≡ true → IsSigned 12 number }
+    ensures no { result ≡ false → IsSigned 12 number → ⊥ }
 {
     -2048 <= number && number < 2048
 }

@@ -1,7 +1,14 @@
 //! The start: what the braces say of registers and locations.
 
-ghost use Rattle.std.specs.Prelude.{◌≡◌, ◌++◌, ◌∷◌, [], None, IfOk, OnOk};
+ghost use Rattle.std.specs.Prelude.{◌≡◌, ◌++◌, ◌∷◌, [], None, List, IfOk, OnOk};
+ghost use Rattle.litmus_words.specs.Answered.{Gives, GivesOrMemory};
+ghost use Rattle.litmus_words.specs.Parts.{NoIndex, NoOffset};
 ghost use Rattle.litmus_words.specs.Tokens.{tokens};
+ghost use Rattle.litmus_words.specs.declared.word.Declared.{Declared as AnyDeclared};
+ghost use Rattle.litmus_words.specs.declared.word.Word.{Word as AnyWord};
+ghost use Rattle.litmus_reading.specs.declared.start.Entry.{Entry as AnyEntry};
+ghost use Rattle.litmus_reading.specs.declared.start.Entry.TheVariants as entry_of;
+ghost use Rattle.litmus_reading.specs.declared.start.HartStart.{HartStart as AnyStart};
 ghost use Rattle.litmus_reading.specs.Starts.{
   initial_in,
   initial_of,
@@ -10,9 +17,13 @@ ghost use Rattle.litmus_reading.specs.Starts.{
   starts_of,
   AddedTaken,
   AreEntries,
+  AreOfHarts,
+  ContentsTaken,
   EntryTaken,
+  IsEnded,
   NameTaken,
   RegisterTaken,
+  SayTheSame,
 };
 
 use crate::contents::{Given, read_contents, read_given, read_value};
@@ -71,7 +82,9 @@ pub(crate) fn read_whole_entry(
 
 /// Reads what stands in the braces: entries, each but the last with a `;` behind it.
 pub(crate) fn read_start(words: &[Word], end: usize, alloc: Global) -> Result<Vec<Entry>, Stop>
-    ensures { IfOk result (λ entries. AreEntries [] entries.items (tokens words.now)) }
+    ensures taken { IfOk result (λ entries. AreEntries [] entries.items (tokens words.now)) }
+    ensures only { (entries : List AnyEntry) → AreEntries [] entries (tokens words.now)
+        → GivesOrMemory result (λ found. SayTheSame found.items entries) }
 {
     let mut entries = Vec::new(alloc);
     let mut rest = words;
@@ -92,7 +105,10 @@ fn read_entry<'a>(
     words: &'a [Word],
     end: usize,
 ) -> Result<&'a [Word], Stop>
-    ensures { IfOk result (λ rest. EntryTaken words.now entries.old.items entries.new.items rest.now) }
+    ensures taken { IfOk result (λ rest. EntryTaken words.now entries.old.items entries.new.items rest.now) }
+    ensures only { (after : List AnyEntry) → (rest : List AnyWord)
+        → EntryTaken words.now entries.old.items after rest → IsEnded rest
+        → GivesOrMemory result (λ behind. (behind.now ≡ rest) × SayTheSame entries.new.items after) }
 {
     let (given, behind) = read_given(words);
     let (word, _) = next(behind, end)?;
@@ -115,7 +131,11 @@ fn add_register<'a>(
     words: &'a [Word],
     end: usize,
 ) -> Result<&'a [Word], Stop>
-    ensures { IfOk result (λ rest. AddedTaken words.now entries.old.items entries.new.items rest.now) }
+    ensures taken { IfOk result (λ rest. AddedTaken given words.now entries.old.items entries.new.items rest.now) }
+    ensures only { (start : AnyStart) → (rest : List AnyWord) → RegisterTaken given words.now start rest
+        → start_in entries.old.items start.hart start.register ≡ None → IsEnded rest
+        → GivesOrMemory result (λ behind. (behind.now ≡ rest)
+        × SayTheSame entries.new.items (entries.old.items ++ entry_of.Register start ∷ [])) }
 {
     let (start, rest) = read_register(given, words, end)?;
     let before = start_in(entries.as_slice(), start.hart, start.register);
@@ -126,7 +146,10 @@ fn add_register<'a>(
 
 /// Reads `0:x5=1`.
 fn read_register(given: Given, words: &[Word], end: usize) -> Result<(HartStart, &[Word]), Stop>
-    ensures { IfOk result (λ p. RegisterTaken words.now p.0 p.1.now) }
+    ensures taken { IfOk result (λ p. RegisterTaken given words.now p.0 p.1.now) }
+    ensures only { (start : AnyStart) → (rest : List AnyWord) → RegisterTaken given words.now start rest → NoIndex rest
+        → NoOffset rest → Gives result (λ p. (p.0.hart ≡ start.hart) × (p.0.register ≡ start.register)
+        × (p.0.value ≡ start.value) × (p.1.now ≡ rest)) }
 {
     let at = start_of(words, end);
     let (hart, rest) = natural(words, end)?;
@@ -150,10 +173,14 @@ fn add_location<'a>(
     words: &'a [Word],
     end: usize,
 ) -> Result<&'a [Word], Stop>
-    ensures { IfOk result (λ rest. AddedTaken words.now entries.old.items entries.new.items rest.now) }
+    ensures taken { IfOk result (λ rest. AddedTaken given words.now entries.old.items entries.new.items rest.now) }
+    ensures only { (declared : AnyDeclared) → (between rest : List AnyWord) → (after : List AnyEntry)
+        → NameTaken words.now declared between → ContentsTaken given declared between entries.old.items after rest
+        → initial_in entries.old.items declared.first ≡ None → IsEnded rest
+        → GivesOrMemory result (λ behind. (behind.now ≡ rest) × (entries.new.items ≡ after)) }
 {
     let (declared, rest) = read_name(words, end)?;
-    let before = initial_in(entries.as_slice(), declared.first);
+    let before = initial_in(entries.as_slice(), declared.first as usize);
     let rest = read_contents(entries, given, declared, rest, end)?;
     check_once(before, start_of(words, end))?;
     Ok(rest)
@@ -161,7 +188,9 @@ fn add_location<'a>(
 
 /// Reads the name of a location, in brackets or without.
 fn read_name(words: &[Word], end: usize) -> Result<(Declared, &[Word]), Stop>
-    ensures { IfOk result (λ p. NameTaken words.now p.0 p.1.now) }
+    ensures taken { IfOk result (λ p. NameTaken words.now p.0 p.1.now) }
+    ensures only { (declared : AnyDeclared) → (rest : List AnyWord) → NameTaken words.now declared rest
+        → Gives result (λ p. (p.0 ≡ declared) × (p.1.now ≡ rest)) }
 {
     match behind_mark(words, Mark::LeftBracket) {
         Some(inner) => {
@@ -178,7 +207,8 @@ fn read_name(words: &[Word], end: usize) -> Result<(Declared, &[Word]), Stop>
 
 /// Refuses an entry of which an entry before says already what it holds.
 fn check_once(before: Option<Value>, at: usize) -> Result<(), Stop>
-    ensures { OnOk result (before ≡ None) }
+    ensures none { OnOk result (before ≡ None) }
+    ensures only { before ≡ None → Gives result (λ _. Unit {0}) }
 {
     match before {
         Some(_) => Err(Stop::at(at, Fault::Twice)),
@@ -188,7 +218,8 @@ fn check_once(before: Option<Value>, at: usize) -> Result<(), Stop>
 
 /// Adds an entry.
 pub(crate) fn add_entry(entries: &mut Vec<Entry>, entry: Entry) -> Result<(), Stop>
-    ensures { OnOk result (entries.new.items ≡ entries.old.items ++ entry ∷ []) }
+    ensures added { OnOk result (entries.new.items ≡ entries.old.items ++ entry ∷ []) }
+    ensures only { GivesOrMemory result (λ _. Unit {0}) }
 {
     entries.push(entry)?;
     Ok(())
@@ -235,7 +266,8 @@ pub(crate) fn starts_of(
     hart: u8,
     alloc: Global,
 ) -> Result<Vec<RegisterStart>, Stop>
-    ensures { IfOk result (λ starts. starts.items ≡ starts_of entries.now hart) }
+    ensures starts { IfOk result (λ starts. starts.items ≡ starts_of entries.now hart) }
+    ensures only { GivesOrMemory result (λ _. Unit {0}) }
 {
     let mut starts = Vec::new(alloc);
     for register in 1..32 {
@@ -251,7 +283,8 @@ fn add_start(
     register: Reg,
     starts: &mut Vec<RegisterStart>,
 ) -> Result<(), Stop>
-    ensures { OnOk result (starts.new.items ≡ starts.old.items ++ start_at entries.now hart register) }
+    ensures added { OnOk result (starts.new.items ≡ starts.old.items ++ start_at entries.now hart register) }
+    ensures only { GivesOrMemory result (λ _. Unit {0}) }
 {
     if let Some(value) = start_in(entries, u32::from(hart), register) {
         starts.push(RegisterStart { register, value })?;
@@ -260,7 +293,10 @@ fn add_start(
 }
 
 /// Refuses a hart that isn't among so many.
-pub(crate) fn check_harts(entries: &[Entry], harts: u8) -> Result<(), Stop> {
+pub(crate) fn check_harts(entries: &[Entry], harts: u8) -> Result<(), Stop>
+    ensures there { OnOk result (AreOfHarts harts entries.now) }
+    ensures only { AreOfHarts harts entries.now → Gives result (λ _. Unit {0}) }
+{
     for entry in entries {
         if let Entry::Register(start) = entry {
             if start.hart >= u32::from(harts) {

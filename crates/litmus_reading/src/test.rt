@@ -1,10 +1,16 @@
 //! A whole test.
 
-ghost use Rattle.std.specs.Prelude.{◌≡◌, ◌≤◌, ◌<◌, ◌+◌, ◌*◌, length, get_or, slice_range, IfOk, IfErr, IfSome, OnOk};
+ghost use Rattle.std.specs.Prelude.{◌≡◌, ◌≤◌, ◌<◌, ◌+◌, ◌*◌, ℕ, List, length, get_or, slice_range, All, IfOk, IfErr, IfSome, OnOk};
+ghost use Rattle.std.specs.List.{AllZip};
 ghost use Rattle.litmus_tests.specs.WellFormed.{IsWellFormed};
+ghost use Rattle.litmus_tests.specs.declared.test.LitmusTest.{LitmusTest as AnyTest};
+ghost use Rattle.litmus_tests.specs.declared.test.Thread.{Thread as AnyThread};
+ghost use Rattle.litmus_tests.specs.Limits.{most_steps};
+ghost use Rattle.litmus_words.specs.Answered.{Gives, GivesOrMemory, GivesSome};
 ghost use Rattle.litmus_words.specs.Places.{IsRefusedIn};
 ghost use Rattle.litmus_words.specs.Parts.{element_size};
 ghost use Rattle.litmus_words.specs.declared.word.Word.{Word as AnyWord};
+ghost use Rattle.litmus_reading.specs.Same.{IsReadAsTest, IsSameTest, IsSameThread};
 ghost use Rattle.litmus_reading.specs.Texts.{
   element_of,
   open_behind,
@@ -28,7 +34,6 @@ use crate::rows::{read_harts, rows_of};
 use crate::sound::makes_sense;
 use crate::start::{Entry, check_harts, read_start, starts_of};
 use crate::thread::read_steps;
-use litmus_tests::test::MOST_LOCATIONS;
 use litmus_tests::{Element, LitmusTest, Location, Thread, Width};
 use litmus_words::{
     Declared, Fault, MOST_BYTES, Mark, ReadingRefused, Shown, Stop, Token, Word, bytes_of, is_mark,
@@ -43,6 +48,7 @@ pub fn read_litmus(text: &[u8], alloc: Global) -> Result<LitmusTest, ReadingRefu
     ensures sound { IfOk result IsWellFormed }
     ensures read { IfOk result (IsTextOf text.now) }
     ensures refused { IfErr result (IsRefusedIn text.now) }
+    ensures only { (test : AnyTest) → IsTextOf text.now test → IsWellFormed test → IsReadAsTest test result }
 {
     match read_test(text, alloc) {
         Ok(test) => Ok(test),
@@ -76,6 +82,8 @@ pub(crate) fn shown_at(text: &[u8], at: usize, fault: Fault) -> Shown
 fn read_test(text: &[u8], alloc: Global) -> Result<LitmusTest, Stop>
     ensures sound { IfOk result IsWellFormed }
     ensures read { IfOk result (IsTextOf text.now) }
+    ensures only { (test : AnyTest) → IsTextOf text.now test → IsWellFormed test
+        → GivesOrMemory result (IsSameTest test) }
 {
     check_length(text)?;
     let head = read_head(text)?;
@@ -92,7 +100,8 @@ fn read_test(text: &[u8], alloc: Global) -> Result<LitmusTest, Stop>
 
 /// Refuses a text of more bytes than there may be.
 fn check_length(text: &[u8]) -> Result<(), Stop>
-    ensures { OnOk result (length text.now ≤ 65536) }
+    ensures short { OnOk result (length text.now ≤ 65536) }
+    ensures only { length text.now ≤ 65536 → Gives result (λ _. Unit {0}) }
 {
     if text.len() > MOST_BYTES {
         return Err(Stop::at(MOST_BYTES, Fault::TooLong));
@@ -102,7 +111,9 @@ fn check_length(text: &[u8]) -> Result<(), Stop>
 
 /// The words in the braces, and behind them.
 pub(crate) fn braces(words: &[Word], end: usize) -> Result<(&[Word], &[Word]), Stop>
-    ensures { IfOk result (λ p. IsBraced words.now p.0.now p.1.now) }
+    ensures braced { IfOk result (λ p. IsBraced words.now p.0.now p.1.now) }
+    ensures only { (inside behind : List AnyWord) → IsBraced words.now inside behind
+        → Gives result (λ p. (p.0.now ≡ inside) × (p.1.now ≡ behind)) }
 {
     let (first, words) = next(words, end)?;
     if !is_mark(first, Mark::LeftBrace) {
@@ -118,6 +129,7 @@ pub(crate) fn braces(words: &[Word], end: usize) -> Result<(&[Word], &[Word]), S
 fn closing(words: &[Word]) -> Option<usize>
     ensures inside { IfSome result (λ place. place < length words.now) }
     ensures closes { IfSome result (IsClosedAt words.now) }
+    ensures only { (place : ℕ) → IsClosedAt words.now place → GivesSome result (λ _. Unit {0}) }
 {
     let mut depth = 0_usize;
     for place in 0..words.len() {
@@ -161,6 +173,9 @@ fn read_words(
     ensures name { IfOk result (λ test.
         test.name.items ≡ slice_range text.now head.name_start head.name_end) }
     ensures words { IfOk result (IsOfWords text.now names.now words.now) }
+    ensures only { (test : AnyTest) → IsOfWords text.now names.now words.now test → IsWellFormed test
+        → test.name.items ≡ slice_range text.now head.name_start head.name_end
+        → GivesOrMemory result (IsSameTest test) }
 {
     let end = text.len();
     let (inside, behind) = braces(words, end)?;
@@ -192,10 +207,11 @@ fn read_words(
 fn read_locations(
     text: &[u8],
     names: &[Named],
-    whole: &[usize],
+    whole: &[u16],
     alloc: Global,
 ) -> Result<Vec<Location>, Stop>
-    ensures { IfOk result (λ locations. AreLocations text.now whole.now names.now locations.items) }
+    ensures are { IfOk result (λ locations. AreLocations text.now whole.now names.now locations.items) }
+    ensures only { GivesOrMemory result (λ _. Unit {0}) }
 {
     let mut locations = Vec::new(alloc);
     for name in names {
@@ -208,11 +224,12 @@ fn read_locations(
 fn add_elements(
     text: &[u8],
     name: Named,
-    whole: &[usize],
+    whole: &[u16],
     locations: &mut Vec<Location>,
     alloc: Global,
 ) -> Result<(), Stop>
-    ensures { OnOk result (LocationsAdded text.now whole.now name locations.old.items locations.new.items) }
+    ensures added { OnOk result (LocationsAdded text.now whole.now name locations.old.items locations.new.items) }
+    ensures only { GivesOrMemory result (λ _. Unit {0}) }
 {
     let count = elements_of(name.declared);
     for index in 0..count {
@@ -226,46 +243,45 @@ fn add_elements(
 fn location_of(
     text: &[u8],
     name: Named,
-    index: usize,
-    whole: &[usize],
+    index: u16,
+    whole: &[u16],
     alloc: Global,
 ) -> Result<Location, Stop>
-    ensures { IfOk result (IsElementOf text.now whole.now name index) }
+    ensures is { IfOk result (IsElementOf text.now whole.now name index) }
+    ensures only { GivesOrMemory result (λ _. Unit {0}) }
 {
     let declared = name.declared;
     Ok(Location {
         name: Vec::from_slice(alloc, bytes_of(text, name.word))?,
         element: element_of(declared, index, whole),
-        byte: byte_of(declared, index)?,
-        begin: declared.byte,
+        byte: byte_of(declared, index),
+        begin: declared.byte as usize,
         number_type: declared.number_type,
     })
 }
 
 /// Where an element stands.
-fn byte_of(declared: Declared, index: usize) -> Result<usize, Stop>
-    ensures { IfOk result (λ byte. byte ≡ declared.byte + index * element_size declared) }
+fn byte_of(declared: Declared, index: u16) -> usize
+    ensures { result ≡ declared.byte + index * element_size declared }
 {
-    if declared.byte > 4 * MOST_LOCATIONS || index > 4 * MOST_LOCATIONS {
-        return Err(Stop::at(0, Fault::TooManyLocations));
+    let (begin, index) = (declared.byte as usize, index as usize);
+    match declared.number_type.width {
+        Width::Byte => begin + index,
+        Width::Half => begin + index * 2,
+        Width::Word => begin + index * 4,
     }
-    Ok(match declared.number_type.width {
-        Width::Byte => declared.byte + index,
-        Width::Half => declared.byte + index * 2,
-        Width::Word => declared.byte + index * 4,
-    })
 }
 
 /// The element with this index, where it is one of an array.
-fn element_of(declared: Declared, index: usize, whole: &[usize]) -> Option<Element>
+fn element_of(declared: Declared, index: u16, whole: &[u16]) -> Option<Element>
     ensures { result ≡ element_of whole.now declared index }
 {
     if !declared.is_array {
         return None;
     }
     Some(Element {
-        index,
-        count: elements_of(declared),
+        index: index as usize,
+        count: elements_of(declared) as usize,
         is_whole: whole.contains(&declared.first),
     })
 }
@@ -280,6 +296,9 @@ fn read_threads(
 ) -> Result<Vec<Thread>, Stop>
     ensures count { IfOk result (λ threads. length threads.items ≡ harts) }
     ensures are { IfOk result (λ threads. AreThreads text.now rows.now entries.now 0 threads.items) }
+    ensures only { (all : List AnyThread) → AreThreads text.now rows.now entries.now 0 all → length all ≡ harts
+        → All (λ thread. length thread.steps.items ≤ most_steps) all
+        → GivesOrMemory result (λ found. AllZip IsSameThread all found.items) }
 {
     let mut threads = Vec::new(alloc);
     for hart in 0..harts {

@@ -1,8 +1,13 @@
 //! What one hart does: the cells of its column, one below the other.
 
-ghost use Rattle.std.specs.Prelude.{◌≡◌, ◌++◌, [], None, IfOk, OnOk};
+ghost use Rattle.std.specs.Prelude.{◌≡◌, ◌≤◌, ◌+◌, ◌++◌, [], List, length, None, IfOk, OnOk};
+ghost use Rattle.litmus_words.specs.Answered.{Gives, GivesOrMemory};
+ghost use Rattle.litmus_tests.specs.Limits.{most_steps};
+ghost use Rattle.litmus_tests.specs.declared.step.LitmusStep.{LitmusStep as AnyStep};
+ghost use Rattle.litmus_reading.specs.declared.instruction.Written.{Written as AnyWritten};
 ghost use Rattle.litmus_reading.specs.Rows.{column_of};
 ghost use Rattle.litmus_reading.specs.Threads.{
+  if_some,
   instruction_of,
   instructions_of,
   label_at,
@@ -46,7 +51,9 @@ pub(crate) fn read_steps(
     hart: u8,
     alloc: Global,
 ) -> Result<Vec<LitmusStep>, Stop>
-    ensures { IfOk result (λ steps. SpellsThread text.now rows.now hart steps.items) }
+    ensures spelled { IfOk result (λ steps. SpellsThread text.now rows.now hart steps.items) }
+    ensures only { (steps : List AnyStep) → SpellsThread text.now rows.now hart steps → length steps ≤ most_steps
+        → GivesOrMemory result (λ found. found.items ≡ steps) }
 {
     let column = read_column(text, rows, hart, alloc)?;
     let steps = steps_of(
@@ -65,7 +72,9 @@ fn steps_of(
     all: &[Written],
     alloc: Global,
 ) -> Result<Vec<LitmusStep>, Stop>
-    ensures { IfOk result (λ steps. AreStepsOf text.now labels.now all.now steps.items) }
+    ensures are { IfOk result (λ steps. AreStepsOf text.now labels.now all.now steps.items) }
+    ensures only { (steps : List AnyStep) → AreStepsOf text.now labels.now all.now steps
+        → GivesOrMemory result (λ found. found.items ≡ steps) }
 {
     let mut steps = Vec::new(alloc);
     for written in all {
@@ -85,10 +94,14 @@ pub(crate) fn no_column(alloc: Global) -> Column {
 
 fn read_column(text: &[u8], rows: &[Word], hart: u8, alloc: Global) -> Result<Column, Stop>
     ensures steps { IfOk result (λ column.
-        AreSpelled (instructions_of (column_of hart rows.now)) column.steps.items) }
+        AreSpelled text.now (instructions_of (column_of hart rows.now)) column.steps.items) }
     ensures labels { IfOk result (λ column.
         column.labels.items ≡ labels_from 0 (column_of hart rows.now)) }
     ensures once { OnOk result (AreOnce text.now [] (labels_from 0 (column_of hart rows.now))) }
+    ensures only { (written : List AnyWritten)
+        → AreSpelled text.now (instructions_of (column_of hart rows.now)) written
+        → AreOnce text.now [] (labels_from 0 (column_of hart rows.now)) → length written ≤ most_steps
+        → GivesOrMemory result (λ column. column.steps.items ≡ written) }
 {
     let mut steps = Vec::new(alloc);
     let mut labels = Vec::new(alloc);
@@ -112,7 +125,10 @@ pub(crate) fn read_cell(text: &[u8], column: &mut Column, cell: &[Word]) -> Resu
 
 /// Reads the instruction of a cell, if it has one.
 fn add_step(text: &[u8], steps: &mut Vec<Written>, instruction: &[Word]) -> Result<(), Stop>
-    ensures { OnOk result (StepAdded instruction.now steps.old.items steps.new.items) }
+    ensures added { OnOk result (StepAdded text.now instruction.now steps.old.items steps.new.items) }
+    ensures only { (written : List AnyWritten) → AreSpelled text.now (if_some instruction.now) written
+        → length steps.old.items + length written ≤ most_steps
+        → GivesOrMemory result (λ _. steps.new.items ≡ steps.old.items ++ written) }
 {
     let Some(last) = instruction.last() else {
         return Ok(());
@@ -129,6 +145,8 @@ fn add_step(text: &[u8], steps: &mut Vec<Written>, instruction: &[Word]) -> Resu
 fn add_label(text: &[u8], labels: &mut Vec<Label>, place: usize, cell: &[Word]) -> Result<(), Stop>
     ensures added { OnOk result (labels.new.items ≡ labels.old.items ++ label_at place cell.now) }
     ensures once { OnOk result (AreOnce text.now labels.old.items (label_at place cell.now)) }
+    ensures only { AreOnce text.now labels.old.items (label_at place cell.now)
+        → GivesOrMemory result (λ _. Unit {0}) }
 {
     let Some(word) = label_of(cell) else {
         return Ok(());
@@ -143,7 +161,8 @@ fn add_label(text: &[u8], labels: &mut Vec<Label>, place: usize, cell: &[Word]) 
 
 /// Refuses a label that is there already.
 fn check_new(text: &[u8], labels: &[Label], word: Word) -> Result<(), Stop>
-    ensures { OnOk result (target_of text.now labels.now word ≡ None) }
+    ensures new { OnOk result (target_of text.now labels.now word ≡ None) }
+    ensures only { target_of text.now labels.now word ≡ None → Gives result (λ _. Unit {0}) }
 {
     match target_of(text, labels, word) {
         Some(_) => Err(Stop::at(word.start, Fault::LabelTwice)),
@@ -179,7 +198,9 @@ fn instruction_of(cell: &[Word]) -> &[Word]
 
 /// The step that an instruction is: a branch has the index of the step behind its label.
 pub(crate) fn step_of(text: &[u8], labels: &[Label], written: Written) -> Result<LitmusStep, Stop>
-    ensures { IfOk result (IsStepOf text.now labels.now written) }
+    ensures is { IfOk result (IsStepOf text.now labels.now written) }
+    ensures only { (step : AnyStep) → IsStepOf text.now labels.now written step
+        → Gives result (λ found. found ≡ step) }
 {
     match written {
         Written::Straight(instr) => Ok(LitmusStep::Straight(instr)),

@@ -4,6 +4,7 @@ pub mod Ending
 pub mod InstructionNames
 pub mod Naming
 pub mod Once
+pub mod Only
 pub mod Placing
 pub mod Standing
 pub mod Tables

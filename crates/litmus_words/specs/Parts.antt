@@ -1,5 +1,5 @@
 -- Which tokens spell a part of a test: a number, a value, a location.
-use Rattle.std.specs.Prelude.{◌≡◌, ◌⊎◌, ℕ, ◌+◌, ◌*◌, ◌^◌, ◌<◌, false, ℤ, pos, neg_ℤ, ◌≤ℤ◌, ◌+ℤ◌, List, [], ◌∷◌}
+use Rattle.std.specs.Prelude.{◌≡◌, ◌≢◌, ◌⊎◌, ℕ, ◌+◌, ◌*◌, ◌^◌, ◌<◌, true, false, ℤ, pos, neg_ℤ, ◌≤ℤ◌, ◌<ℤ◌, ◌+ℤ◌, List, [], ◌∷◌}
 use Rattle.litmus_tests.specs.declared.value.Value.{Value}
 use Rattle.litmus_tests.specs.declared.value.Value.TheVariants as value
 use Rattle.litmus_tests.specs.declared.condition.Observed.{Observed}
@@ -17,10 +17,10 @@ SpellsInteger text number = (natural : ℕ)
     × (((text ≡ Number natural ∷ []) × (number ≡ pos natural))
     ⊎ ((text ≡ Mark mark.Minus ∷ Number natural ∷ []) × ((number +ℤ pos natural) ≡ pos 0)))
 
--- The word that a number is: itself, or in two's complement.
+-- The word that a number is: itself, or where it is below zero in two's complement.
 abbrev pub IsWordOf : ℤ → ℕ → Type 0
-IsWordOf number word = (number ≡ pos word)
-    ⊎ ((neg_ℤ (pos (2 ^ 31)) ≤ℤ number) × ((number +ℤ pos (2 ^ 32)) ≡ pos word))
+IsWordOf number word = (word < 2 ^ 32) × ((number ≡ pos word)
+    ⊎ ((neg_ℤ (pos (2 ^ 31)) ≤ℤ number) × (number <ℤ pos 0) × ((number +ℤ pos (2 ^ 32)) ≡ pos word)))
 
 pub record SpellsNumber (text : List Token) (word : ℕ) : Type 0 where
   pub number : ℤ
@@ -41,7 +41,7 @@ abbrev pub SpellsByte : Declared → List Token → ℕ → Type 0
 SpellsByte declared text byte = ((text ≡ Location declared ∷ []) × (byte ≡ declared.byte))
     ⊎ ((offset : ℕ) × (text ≡ Location declared ∷ Mark mark.Plus ∷ Number offset ∷ [])
     × (offset < declared.size) × (byte ≡ declared.byte + offset))
-    ⊎ ((element : ℕ) × (text ≡ Location declared ∷ index_tokens element)
+    ⊎ ((element : ℕ) × (text ≡ Location declared ∷ index_tokens element) × (declared.is_array ≡ true)
     × (element_size declared * element < declared.size) × (byte ≡ declared.byte + element_size declared * element))
 
 pub record SpellsAddress (text : List Token) (byte : ℕ) : Type 0 where
@@ -59,7 +59,7 @@ SpellsIndex declared text index =
     ((text ≡ Location declared ∷ []) × (declared.is_array ≡ false) × (index ≡ declared.first))
     ⊎ ((text ≡ Mark mark.LeftBracket ∷ Location declared ∷ Mark mark.RightBracket ∷ [])
     × (declared.is_array ≡ false) × (index ≡ declared.first))
-    ⊎ ((element : ℕ) × (text ≡ Location declared ∷ index_tokens element)
+    ⊎ ((element : ℕ) × (text ≡ Location declared ∷ index_tokens element) × (declared.is_array ≡ true)
     × (element_size declared * element < declared.size) × (index ≡ declared.first + element))
 
 pub record SpellsLocation (text : List Token) (index : ℕ) : Type 0 where
@@ -87,6 +87,15 @@ pub record AddressTaken (words : List Word) (byte : ℕ) (rest : List Word) : Ty
   pub text : List Token
   pub spells : SpellsAddress text byte
   pub takes : Takes words text rest
+
+-- What stands behind is nothing that such a part would go on with: no mark of an index, and none of an offset.
+abbrev pub NoIndex : List Word → Type 0
+NoIndex [] = Unit {0}
+NoIndex (word ∷ words) = word.token ≢ Mark mark.LeftBracket
+
+abbrev pub NoOffset : List Word → Type 0
+NoOffset [] = Unit {0}
+NoOffset (word ∷ words) = word.token ≢ Mark mark.Plus
 
 abbrev pub ElementTaken : List Word → ℕ → List Word → Type 0
 ElementTaken words element rest = Takes words (index_tokens element) rest

@@ -30,10 +30,10 @@ pub enum Token {
 #[derive(Clone, Copy, Drop)]
 pub struct Declared {
     /// The index of the location, or of the first element, among the test's locations.
-    pub first: usize,
+    pub first: u16,
     /// Where it stands, in bytes behind the first of all locations, and how many bytes it has.
-    pub byte: usize,
-    pub size: usize,
+    pub byte: u16,
+    pub size: u16,
     pub number_type: NumberType,
     pub is_array: bool,
 }

@@ -10,7 +10,7 @@ use Rattle.outcome_text.specs.Listing.{incomplete_text, ends_text}
 use Rattle.litmus_tests.specs.declared.test.LitmusTest.{LitmusTest}
 use Rattle.litmus_tests.specs.{WellFormed.IsWellFormed, Conditions.holding}
 use Rattle.litmus_words.specs.Places.{IsPlaceIn}
-use Rattle.litmus_reading.specs.Texts.{IsTextOf}
+use Rattle.litmus_reading.specs.Texts.{IsNoTest, IsTextOf}
 use Rattle.litmus_images.specs.{Image.IsLitmusImage, Watching.registers_observed, Watching.words_observed}
 use Rattle.litmus_text.specs.States.{states_text, states_in}
 use Rattle.sim_inputs.specs.declared.line.LitmusCommand.{LitmusCommand}
@@ -84,9 +84,9 @@ pub record LitmusComesTo (text : List ℕ) (command : LitmusCommand) (Put : List
   pub well_formed : IsWellFormed test
   pub comes : TestComesTo test command Put old new exit_status
 
--- What is refused of a text: it is no test, from that place of it on. Of memory nothing is said.
+-- What is refused of a text: no test is spelled by it, and a place of it is named. Of memory nothing is said.
 abbrev pub IsTextRefusal : List ℕ → Refused → Type 0
-IsTextRefusal text (reasons.Litmus place fault) = IsPlaceIn text place
+IsTextRefusal text (reasons.Litmus place fault) = IsPlaceIn text place × IsNoTest text
 IsTextRefusal text reasons.Memory = Unit {0}
 IsTextRefusal text _ = ⊥
 

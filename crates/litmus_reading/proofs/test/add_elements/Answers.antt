@@ -7,9 +7,9 @@ loop-index-init c =
 
 pub loop-index-preserved : goal.loop-index-preserved
 loop-index-preserved c =
-    element_more _ _ _ _ _ _ _ _ c.loop-index.invariant c.in_ok-location.ensures c.in_ok-push.ensures.items
+    element_more _ _ _ _ _ _ _ _ c.loop-index.invariant c.in_ok-location.ensures.is c.in_ok-push.ensures.items
 
-pub returns : goal.returns
-returns c =
+pub returns-clause-added : goal.returns-clause-added
+returns-clause-added c =
     all_elements _ _ _ _ _ _ _ c.loop-index.invariant c.elements_of-count.ensures.value c.loop-index.auto.index-end
     c.loop-index-test.false

@@ -7,8 +7,8 @@ loop-name-init c =
 
 pub loop-name-preserved : goal.loop-name-preserved
 loop-name-preserved c =
-    location_more _ _ _ _ _ _ _ c.loop-name-test.true c.loop-name.invariant c.in_ok-add_elements.ensures
+    location_more _ _ _ _ _ _ _ c.loop-name-test.true c.loop-name.invariant c.in_ok-add_elements.ensures.added
 
-pub returns : goal.returns
-returns c =
+pub returns-clause-are : goal.returns-clause-are
+returns-clause-are c =
     locations_all _ _ _ _ _ c.loop-name-test.false c.loop-name.invariant

@@ -1,0 +1,5 @@
+use Rattle.litmus_reading.proofs.instruction.branch.Goals as goal
+
+pub returns-in_err-left-clause-only : goal.returns-in_err-left-clause-only
+returns-in_err-left-clause-only c = λ op' left right label is last.
+    absurd (c.in_err-left.ensures.only left right label is.1 last)

@@ -1,0 +1,6 @@
+use Rattle.litmus_reading.proofs.Chains.{none_of}
+use Rattle.litmus_reading.proofs.instruction.no_operation.Goals as goal
+
+pub returns-in_err-nothing-clause-only : goal.returns-in_err-nothing-clause-only
+returns-in_err-nothing-clause-only c = λ none.
+    absurd (c.in_err-nothing.ensures.refused (none_of c.args.operands.now none))
