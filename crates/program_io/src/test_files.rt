@@ -129,9 +129,17 @@ impl<S: Files + Input, E: Write> TestSource for TestFiles<'_, S, E> {
         let place = shown_place(self.is_alone, self.path.as_str());
         let _ = write_place(place.as_bytes(), self.err);
         let _ = writeln!(self.err, "{refused}");
-        let line = line_of(self.line, &self.litmus, self.path.as_str());
         if let Ok(said) = said_of(place.as_bytes(), &refused, self.hinting.alloc) {
-            tell_text(&self.hinting, said.as_str(), refused, &line, text, self.err);
+            tell_text(
+                &self.hinting,
+                said.as_str(),
+                refused,
+                self.line,
+                &self.litmus,
+                self.path.as_str(),
+                text,
+                self.err,
+            );
         }
     }
 }
@@ -144,8 +152,29 @@ fn shown_place(is_alone: bool, path: &str) -> &str {
     path
 }
 
-/// Writes the hint of a text that is refused as the test of a line, which is said so.
+/// Writes the hint of a text that is refused as the test of this path, which is said so.
 fn tell_text<E: Write>(
+    hinting: &Hinting,
+    said: &str,
+    refused: Refused,
+    line: &Line<'_>,
+    litmus: &LitmusCommand<'_>,
+    path: &str,
+    text: &[u8],
+    err: &mut E,
+) {
+    tell_line_text(
+        hinting,
+        said,
+        refused,
+        &line_of(line, litmus, path),
+        text,
+        err,
+    );
+}
+
+/// Writes the hint of a text that is refused as the test of a line, which is said so.
+fn tell_line_text<E: Write>(
     hinting: &Hinting,
     said: &str,
     refused: Refused,

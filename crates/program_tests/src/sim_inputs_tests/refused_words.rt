@@ -192,6 +192,6 @@ fn other_words_are_refused(rt: HostRuntime) {
         holds(&rt, text, are_refused(text, rt.alloc()) == Ok(true));
         rows = rows.wrapping_add(1);
     }
-    assert!(rt; rows == 160);
+    assert!(rt; rows == 168);
     assert!(rt; is_refusal(read_words(&[], rt.alloc())));
 }

@@ -2,7 +2,7 @@ use Rattle.std.proofs.Common.{subst}
 use Rattle.sim_inputs.specs.{declared.files.Files.Files}
 use Rattle.program_io.specs.Performed.{read_of, IsReadAs}
 use Rattle.program_io.proofs.OfSuites.{nameless, tested}
-use Rattle.program_io.proofs.suite.Program.read_and_test.Goals as goal
+use Rattle.program_io.proofs.performing.Program.read_and_test.Goals as goal
 
 pub returns : goal.returns
 returns g c =

@@ -1,5 +1,5 @@
 use mathlib.Core.Logic.{inl, inr}
-use Rattle.program_io.proofs.suite.Program.perform_asked.Goals as goal
+use Rattle.program_io.proofs.performing.Program.perform_asked.Goals as goal
 
 pub returns-in-Some-clause-known : goal.returns-in-Some-clause-known
 returns-in-Some-clause-known g c = c.read_and_test.ensures.known
