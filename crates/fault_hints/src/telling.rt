@@ -91,7 +91,7 @@ fn add_asked_fault(
             b"the list and the condition name more than 64 registers and words",
         ),
         Refused::NoWord(bytes) => add_absent_word(bytes, fault, hint, alloc),
-        Refused::NoOutcome(number) => add_absent_outcome(number, hint, alloc),
+        Refused::NoOutcome(number) => add_absent_outcome(number, fault, hint, alloc),
         Refused::NotStuck => hint.add(
             Part::Cause,
             b"some order leads on to an end from wherever an order leads",

@@ -2,6 +2,7 @@ pub mod Plain
 pub mod PlainRounds
 pub mod DrawnOrders
 pub mod Schedule
+pub mod StateOrders
 pub mod Retiring
 pub mod Questions
 pub mod WrittenOrders

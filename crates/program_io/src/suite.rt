@@ -117,7 +117,7 @@ impl<S: Files + Input + Threads + Wait + Sync, G: Gate + Sync, P: Predict + Copy
 }
 
 /// The command of a line whose tests are several, by its words or since the one is a folder; or which asks for lines in
-/// place of states. A file is written of one test, which is read as it stands.
+/// place of states. A file is written of one test, which is read as it stands, and so is one that is run.
 fn suite_of<'a, S: Files>(line: &Line<'a>, system: &S) -> Option<LitmusCommand<'a>>
     ensures { IfSome result (λ litmus. line.now.command ≡ Litmus litmus) }
 {
@@ -127,7 +127,10 @@ fn suite_of<'a, S: Files>(line: &Line<'a>, system: &S) -> Option<LitmusCommand<'
     if litmus.several || litmus.is_summed() {
         return Some(litmus);
     }
-    if litmus.written().is_none() && is_folder(system, litmus.test) {
+    if litmus.written().is_some() || litmus.run.is_some() {
+        return None;
+    }
+    if is_folder(system, litmus.test) {
         return Some(litmus);
     }
     None
