@@ -1,11 +1,13 @@
 //! Whether a condition holds where harts have chosen their runs, as far as that can be said.
 
 use crate::event::MemoryEvent;
+use crate::open::count_writes;
 use litmus_runs::{AllRuns, initial_number, word_of};
 use litmus_tests::{Condition, LitmusTest, Location, Observed, Term, narrowed};
 use numbers::Reg;
 
-/// The runs that the first harts have chosen, and what they have written in coherence order, once that is chosen.
+/// The runs that the first harts have chosen, and their events, once all have: the order of their writes as far as it is
+/// decided.
 #[derive(Clone, Copy, Drop)]
 pub(crate) struct Ending<'test, 'runs, 'chosen, 'events> {
     pub test: &'test LitmusTest,
@@ -62,12 +64,14 @@ impl Ending<'_, '_, '_, '_> {
         Some(part_of(word, location))
     }
 
-    /// The number that a word of the locations has at the end.
+    /// What the write of a word of the locations writes that is last in coherence order, or what is there at the start.
     fn last_word(&self, word: usize) -> Option<u32> {
-        match last_write(self.events?, word) {
-            Some(number) => Some(number),
-            None => initial_number(self.test, word),
+        let events = self.events?;
+        let count = count_writes(events, word);
+        if count == 0 {
+            return initial_number(self.test, word);
         }
+        written_last(events, word, count)
     }
 }
 
@@ -82,17 +86,14 @@ fn part_of(word: u32, location: &Location) -> u32 {
     narrowed(location.number_type.width, bytes)
 }
 
-/// What the write of a location that is last in coherence order writes.
-fn last_write(events: &[MemoryEvent], location: usize) -> Option<u32> {
-    let mut last = None;
-    let mut rank = 0_usize;
+/// What the write of a location with this place in coherence order writes, if it has its place.
+fn written_last(events: &[MemoryEvent], location: usize, rank: usize) -> Option<u32> {
     for event in events {
-        if event.location == location && event.writes.is_some() && rank <= event.rank {
-            rank = event.rank;
-            last = event.writes;
+        if event.location == location && event.writes.is_some() && event.rank == rank {
+            return event.writes;
         }
     }
-    last
+    None
 }
 
 fn negated(one: Option<bool>) -> Option<bool> {
