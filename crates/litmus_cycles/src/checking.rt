@@ -69,7 +69,7 @@ pub(crate) fn is_cycle(events: &[MemoryEvent], edges: &[Edge]) -> bool
     are_edges(events, edges) && is_closed(edges)
 }
 
-fn written_at(event: &MemoryEvent, location: usize) -> Option<u32>
+pub(crate) fn written_at(event: &MemoryEvent, location: usize) -> Option<u32>
     ensures { result ≡ written_at event.now location }
 {
     if event.location == location {
@@ -88,7 +88,7 @@ fn given_by(test: &LitmusTest, events: &[MemoryEvent], event: &MemoryEvent) -> O
     }
 }
 
-fn has_number(number: u32, given: Option<u32>) -> bool
+pub(crate) fn has_number(number: u32, given: Option<u32>) -> bool
     ensures { result ≡ has_number number given }
 {
     match given {

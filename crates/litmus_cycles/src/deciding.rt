@@ -1,7 +1,10 @@
-//! What may be decided of a candidate, as far as the rest of it is: nothing that is refused here fits, whatever else
-//! is decided.
+//! Whether something may come of what is decided of a candidate: nothing that is refused here fits, whatever else is
+//! decided.
 
-use crate::coherence::{is_others_write, keeps_order, load_of, parts, reads_older, writes_behind};
+ghost use Rattle.std.specs.Prelude.{◌≡◌};
+ghost use Rattle.litmus_cycles.specs.Endings.{may_end};
+
+use crate::coherence::{keeps_order, load_of, parts, reads_older, writes_behind};
 use crate::demand::Demand;
 use crate::ending::Ending;
 use crate::event::MemoryEvent;
@@ -20,28 +23,41 @@ pub(crate) struct Asked<'test, 'runs, 'chosen> {
 }
 
 impl Asked<'_, '_, '_> {
-    /// Decides what is open by one of the choices: the event with that index, or, one past the last, what is there
-    /// at the start. Answers whether something may come of it.
-    pub fn decide(&self, open: Open, choice: usize, events: &mut [MemoryEvent]) -> bool {
+    /// Whether something may come of a choice that was made of what was open.
+    pub fn may_come(&self, open: Open, choice: usize, events: &[MemoryEvent]) -> bool {
         match open {
-            Open::Place { location, rank } => {
-                place(events, location, rank, choice) && self.may_stand(events, choice)
-            }
-            Open::Source(index) => {
-                self.give(events, index, choice) && self.may_read(events, index)
-            }
+            Open::Place { .. } => self.may_stand(events, choice),
+            Open::Source(index) => self.may_read(events, index),
         }
     }
 
     /// Whether the condition may hold of a state in which it ends, as far as the events are decided.
-    pub fn may_meet(&self, events: &[MemoryEvent]) -> bool {
+    pub fn may_end(&self, events: &[MemoryEvent]) -> bool
+        ensures { result ≡ may_end self.now.test.now self.now.runs.now self.now.chosen.now events.now }
+    {
         let ending = Ending {
             test: self.test,
             runs: self.runs,
             chosen: self.chosen,
-            events: Some(events),
+            has_events: true,
+            events,
         };
-        ending.is_asked_for() != Some(false)
+        match ending.is_asked_for() {
+            Some(holds) => holds,
+            None => true,
+        }
+    }
+
+    /// Whether the registers rule the condition out, whatever else is chosen.
+    pub fn is_ruled_out(&self) -> bool {
+        let ending = Ending {
+            test: self.test,
+            runs: self.runs,
+            chosen: self.chosen,
+            has_events: false,
+            events: &[],
+        };
+        ending.is_asked_for() == Some(false)
     }
 
     /// Whether each read's number is written by some event, or there at the start.
@@ -71,7 +87,7 @@ impl Asked<'_, '_, '_> {
         if self.demand.is_whole() && !self.is_handed_on(events, write) {
             return false;
         }
-        write.rank < count_writes(events, write.location) || self.may_meet(events)
+        write.rank < count_writes(events, write.location) || self.may_end(events)
     }
 
     /// Whether what goes with the write behind this one, an AMO or a store-conditional, reads its number, and where
@@ -87,27 +103,6 @@ impl Asked<'_, '_, '_> {
             })
     }
 
-    /// Gives an event its source, where it is one: a write of its number to its location, or the start; of a
-    /// store-conditional that fails, a write of another hart.
-    fn give(&self, events: &mut [MemoryEvent], index: usize, choice: usize) -> bool {
-        let Some(event) = events.get(index).copied() else {
-            return false;
-        };
-        let source = events.get(choice).copied();
-        let fits = match (event.reads, source) {
-            (Some(number), Some(write)) => {
-                choice != index && write.location == event.location && write.writes == Some(number)
-            }
-            (Some(number), None) => initial_number(self.test, event.location) == Some(number),
-            (None, Some(write)) => is_others_write(&event, &write),
-            (None, None) => false,
-        };
-        if fits {
-            set_source(events, index, source.map(|_| choice));
-        }
-        fits
-    }
-
     /// Whether an event that has its source may read it: of its hart's accesses to its location those before it are
     /// decided, and of those behind it where they write.
     fn may_read(&self, events: &[MemoryEvent], index: usize) -> bool {
@@ -121,38 +116,6 @@ impl Asked<'_, '_, '_> {
             return false;
         }
         !self.demand.is_whole() || !is_parted(events, event, index)
-    }
-}
-
-/// Puts a write at a place of coherence order, where it is one of the location that has none yet.
-fn place(events: &mut [MemoryEvent], location: usize, rank: usize, index: usize) -> bool {
-    let Some(event) = events.get_mut(index) else {
-        return false;
-    };
-    if event.location != location || event.writes.is_none() || event.rank != 0 {
-        return false;
-    }
-    event.rank = rank;
-    true
-}
-
-fn set_source(events: &mut [MemoryEvent], index: usize, source: Option<usize>) {
-    if let Some(event) = events.get_mut(index) {
-        event.source = source;
-    }
-}
-
-/// Takes back what was decided, if this choice was.
-pub(crate) fn take_back(open: Open, choice: usize, events: &mut [MemoryEvent]) {
-    match open {
-        Open::Place { location, rank } => {
-            if let Some(event) = events.get_mut(choice) {
-                if event.location == location && event.rank == rank {
-                    event.rank = 0;
-                }
-            }
-        }
-        Open::Source(index) => set_source(events, index, None),
     }
 }
 

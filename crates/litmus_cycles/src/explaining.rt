@@ -1,7 +1,10 @@
 //! Why no execution of a test ends as its condition says.
 
-ghost use Rattle.std.specs.Prelude.{◌≡◌, IfOk};
+ghost use Rattle.std.specs.Prelude.{◌≡◌, ◌==◌, ◌&&◌, [], IfOk};
 ghost use Rattle.litmus_cycles.specs.Explained.{IsShown};
+ghost use Rattle.litmus_cycles.specs.Searched.{AreSearched};
+ghost use Rattle.litmus_cycles.specs.Looked.{AreLookedAt, is_incoherent, is_atomicity};
+ghost use Rattle.litmus_cycles.specs.declared.demand.Demand.TheVariants.{Whole};
 
 use crate::demand::Demand;
 use crate::explanation::{Explanation, Shown};
@@ -23,50 +26,89 @@ pub fn explain_forbidden(test: &LitmusTest, alloc: Global) -> Result<Explanation
     ensures { IfOk result (λ explanation. IsShown test.now explanation.shown) }
 {
     let runs = all_runs(test, alloc)?;
-    let findings = search(test, &runs, Demand::Whole, alloc)?;
+    explain_ways(test, &runs, alloc)
+}
+
+/// So it does with these ways of its harts. Where it is whole and gave up nothing, none of their candidates is of a
+/// kind that is said not to be there.
+pub fn explain_ways(
+    test: &LitmusTest,
+    runs: &AllRuns,
+    alloc: Global,
+) -> Result<Explanation, AllocError>
+    ensures shown { IfOk result (λ explanation. IsShown test.now explanation.shown) }
+    ensures all { IfOk result (AreLookedAt test.now runs.now) }
+{
+    let findings = search(test, runs, Demand::Whole, alloc)?;
     if findings.fitting > 0 || !findings.is_whole {
         return Ok(told(findings));
     }
-    excluded(test, &runs, findings, alloc)
+    excluded(test, runs, findings, alloc)
 }
 
-/// Why none fits: one of the least that is excluded.
+/// Why none fits: atomicity where there is a coherent one, coherence where there is one with the numbers.
 fn excluded(
     test: &LitmusTest,
     runs: &AllRuns,
     none: Findings,
     alloc: Global,
 ) -> Result<Explanation, AllocError>
-    ensures { IfOk result (λ explanation. IsShown test.now explanation.shown) }
+    requires { AreSearched test.now runs.now [] Whole runs.now.harts.items none }
+    ensures shown { IfOk result (λ explanation. IsShown test.now explanation.shown) }
+    ensures all { IfOk result (AreLookedAt test.now runs.now) }
 {
-    let mut is_whole = none.is_whole;
-    for demand in [Demand::Coherent, Demand::Writes, Demand::Numbers] {
-        let findings = search(test, runs, demand, alloc)?;
-        if findings.fitting > 0 {
-            return Ok(Explanation {
-                candidates: none.candidates,
-                fitting: 0,
-                is_whole,
-                shown: findings.shown,
-            });
-        }
-        is_whole = is_whole && findings.is_whole;
+    let coherent = search(test, runs, Demand::Coherent, alloc)?;
+    if is_atomicity(&coherent.shown) {
+        return Ok(because(&none, none.candidates, coherent.shown));
     }
-    Ok(Explanation {
-        candidates: none.candidates,
+    let writes = search(test, runs, Demand::Writes, alloc)?;
+    if is_incoherent(&writes.shown) {
+        return Ok(because(&coherent, none.candidates, writes.shown));
+    }
+    let numbers = search(test, runs, Demand::Numbers, alloc)?;
+    if is_incoherent(&numbers.shown) {
+        return Ok(because(&coherent, none.candidates, numbers.shown));
+    }
+    Ok(because(&numbers, none.candidates, Shown::Nothing))
+}
+
+/// That is shown, where a search has found none.
+fn because(none: &Findings, candidates: u64, shown: Shown) -> Explanation
+    ensures shown { result.shown ≡ shown }
+    ensures gives_up { result.gives_up ≡ none.now.gives_up }
+    ensures whole { result.is_whole ≡ (none.now.is_whole && none.now.fitting == 0) }
+{
+    Explanation {
+        candidates,
         fitting: 0,
-        is_whole,
-        shown: Shown::Nothing,
-    })
+        is_whole: none.is_whole && none.fitting == 0,
+        gives_up: none.gives_up,
+        shown,
+    }
+}
+
+fn is_incoherent(shown: &Shown) -> bool
+    ensures { result ≡ is_incoherent shown.now }
+{
+    matches!(shown, Shown::Incoherent { .. })
+}
+
+fn is_atomicity(shown: &Shown) -> bool
+    ensures { result ≡ is_atomicity shown.now }
+{
+    matches!(shown, Shown::Atomicity { .. })
 }
 
 fn told(findings: Findings) -> Explanation
-    ensures { result.shown ≡ findings.shown }
+    ensures shown { result.shown ≡ findings.shown }
+    ensures fitting { result.fitting ≡ findings.fitting }
+    ensures whole { result.is_whole ≡ findings.is_whole }
 {
     Explanation {
         candidates: findings.candidates,
         fitting: findings.fitting,
         is_whole: findings.is_whole,
+        gives_up: findings.gives_up,
         shown: findings.shown,
     }
 }

@@ -5,12 +5,14 @@
 //!
 //! Read in this order: `event` (accesses to memory and how they are related), `relating`, `coherence`, `checking` (what
 //! a cycle and a candidate is, as tests), `explanation` (what is told); `demand`, `open` (what is to be decided of a
-//! candidate), `ending`, `deciding`, `related`, `cycles`, `showing`, `findings`, `searching`, `explaining` (the search).
-//! The definitions are `specs/Executions`, `specs/OneOrder` and `specs/Explained`; how it is told and drawn is
+//! candidate), `choosing`, `ending`, `deciding`, `related`, `cycles`, `showing`, `findings`, `possible`, `searching`,
+//! `explaining` (the search).
+//! The definitions are `specs/Executions`, `specs/OneOrder`, `specs/Choices`, `specs/Endings` and `specs/Explained`; how it is told and drawn is
 //! `explained_cycles`.
 #![tactic(auto)]
 
 mod checking;
+mod choosing;
 mod coherence;
 mod cycles;
 mod deciding;
@@ -21,6 +23,7 @@ pub mod explaining;
 pub mod explanation;
 mod findings;
 mod open;
+mod possible;
 mod related;
 mod relating;
 mod searching;

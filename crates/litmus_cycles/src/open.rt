@@ -1,5 +1,9 @@
 //! What is to be decided of a candidate whose harts have chosen their ways, and how many ways there are to do it.
 
+ghost use Rattle.std.specs.Prelude.{◌≡◌, ◌++◌, ◌==◌, ◌&&◌, OnOk, IfOk};
+ghost use Rattle.litmus_cycles.specs.Choices.{places, sources, open_at, all_open, writes_at, has_source};
+ghost use Rattle.litmus_cycles.specs.Executions.{is_write};
+
 use crate::coherence::is_others_write;
 use crate::event::MemoryEvent;
 use std::alloc::{AllocError, Global};
@@ -18,12 +22,28 @@ pub(crate) fn open_choices(
     events: &[MemoryEvent],
     locations: usize,
     alloc: Global,
-) -> Result<Vec<Open>, AllocError> {
+) -> Result<Vec<Open>, AllocError>
+    ensures { IfOk result (λ open. open.items ≡ all_open events.now 0 locations) }
+{
     let mut open = Vec::new(alloc);
-    for location in 0..locations {
-        add_open(events, location, &mut open)?;
-    }
+    add_all(events, 0, locations, &mut open)?;
     Ok(open)
+}
+
+/// Adds what is to be decided of so many locations from this one on.
+fn add_all(
+    events: &[MemoryEvent],
+    location: usize,
+    left: usize,
+    open: &mut Vec<Open>,
+) -> Result<(), AllocError>
+    ensures { OnOk result (open.new.items ≡ open.old.items ++ all_open events.now location left) }
+{
+    if left == 0 {
+        return Ok(());
+    }
+    add_open(events, location, open)?;
+    add_all(events, location.saturating_add(1), left - 1, open)
 }
 
 /// Adds what is to be decided of a location: the order of its writes from the last one to the first, then what is read
@@ -32,33 +52,71 @@ pub(crate) fn add_open(
     events: &[MemoryEvent],
     location: usize,
     open: &mut Vec<Open>,
-) -> Result<(), AllocError> {
-    let count = count_writes(events, location);
-    for behind in 0..count {
-        open.push(Open::Place {
-            location,
-            rank: count.saturating_sub(behind),
-        })?;
+) -> Result<(), AllocError>
+    ensures { OnOk result (open.new.items ≡ open.old.items ++ open_at events.now location) }
+{
+    add_places(location, count_writes(events, location), open)?;
+    add_sources(events, location, 0, open)
+}
+
+/// Adds so many places of a location, the last one first.
+fn add_places(location: usize, count: usize, open: &mut Vec<Open>) -> Result<(), AllocError>
+    ensures { OnOk result (open.new.items ≡ open.old.items ++ places location count) }
+{
+    if count == 0 {
+        return Ok(());
     }
-    for (index, event) in events.iter().enumerate() {
-        if event.location == location && has_source(event) {
-            open.push(Open::Source(index))?;
-        }
+    open.push(Open::Place {
+        location,
+        rank: count,
+    })?;
+    add_places(location, count - 1, open)
+}
+
+/// Adds those of these events that read a location, or fail to write there; the first of them has this index.
+fn add_sources(
+    events: &[MemoryEvent],
+    location: usize,
+    index: usize,
+    open: &mut Vec<Open>,
+) -> Result<(), AllocError>
+    ensures { OnOk result (open.new.items ≡ open.old.items ++ sources location index events.now) }
+{
+    let [event, rest @ ..] = events else {
+        return Ok(());
+    };
+    if event.location == location && has_source(event) {
+        open.push(Open::Source(index))?;
     }
-    Ok(())
+    add_sources(rest, location, index.saturating_add(1), open)
 }
 
 /// Whether it reads, or is a store-conditional that fails.
-fn has_source(event: &MemoryEvent) -> bool {
+fn has_source(event: &MemoryEvent) -> bool
+    ensures { result ≡ has_source event.now }
+{
     event.reads.is_some() || event.writes.is_none()
 }
 
+fn is_write_at(event: &MemoryEvent, location: usize) -> bool
+    ensures { result ≡ (event.now.location == location && is_write event.now) }
+{
+    event.location == location && event.writes.is_some()
+}
+
 /// How many of these events write a location.
-pub(crate) fn count_writes(events: &[MemoryEvent], location: usize) -> usize {
-    events
-        .iter()
-        .filter(|event| event.location == location && event.writes.is_some())
-        .count()
+pub(crate) fn count_writes(events: &[MemoryEvent], location: usize) -> usize
+    ensures { result ≡ writes_at location events.now }
+{
+    let [event, rest @ ..] = events else {
+        return 0;
+    };
+    let count = count_writes(rest, location);
+    if is_write_at(event, location) {
+        count.saturating_add(1)
+    } else {
+        count
+    }
 }
 
 /// How many ways there are to decide it: each read reads any write of its location but its own, or the start; each

@@ -1,7 +1,10 @@
 //! What is shown of a candidate of which all is decided.
 
-ghost use Rattle.std.specs.Prelude.{◌≡◌, IsTrue, IfOk, IfSome};
+ghost use Rattle.std.specs.Prelude.{◌≡◌, IsTrue, IfOk, IfSome, None, false, ◌&&◌};
 ghost use Rattle.litmus_cycles.specs.Explained.{fits, IsJudged};
+ghost use Rattle.litmus_cycles.specs.Executions.{is_candidate};
+ghost use Rattle.litmus_cycles.specs.OneOrder.{is_coherent_execution};
+ghost use Rattle.litmus_cycles.specs.Searched.{meets_demand};
 
 use crate::checking::{is_broken, is_candidate, is_cycle, is_order, stays_at_one_location};
 use crate::coherence::{is_coherent, is_whole};
@@ -34,7 +37,8 @@ pub(crate) fn judge(
     least: Option<Cost>,
     alloc: Global,
 ) -> Result<Option<Judged>, AllocError>
-    ensures { IfOk result (λ judged. IfSome judged (IsJudged test.now)) }
+    ensures judged { IfOk result (λ judged. IfSome judged (IsJudged test.now)) }
+    ensures none { IfOk result (λ judged. judged ≡ None → meets_demand demand test.now events.now ≡ false) }
 {
     match demand {
         Demand::Numbers | Demand::Writes => incoherent(test, events, alloc),
@@ -64,7 +68,8 @@ fn fitting(
     least: Option<Cost>,
     alloc: Global,
 ) -> Result<Option<Judged>, AllocError>
-    ensures { IfOk result (λ judged. IfSome judged (IsJudged test.now)) }
+    ensures judged { IfOk result (λ judged. IfSome judged (IsJudged test.now)) }
+    ensures none { IfOk result (λ judged. judged ≡ None → fits test.now events.now ≡ false) }
 {
     if !fits(test, events) {
         return Ok(None);
@@ -79,7 +84,7 @@ fn fitting(
         let events = events.to_vec(alloc)?;
         return Ok(Some(Judged::Less(Shown::Cycle { events, edges }, cost)));
     }
-    execution(test, events, &ways, least, alloc)
+    Ok(Some(execution(test, events, &ways, least, alloc)?))
 }
 
 /// Of a candidate that fits and has no cycle the order of its events: it costs nothing.
@@ -89,53 +94,60 @@ fn execution(
     ways: &Ways,
     least: Option<Cost>,
     alloc: Global,
-) -> Result<Option<Judged>, AllocError>
+) -> Result<Judged, AllocError>
     requires { IsTrue (fits test.now events.now) }
-    ensures { IfOk result (λ judged. IfSome judged (IsJudged test.now)) }
+    ensures { IfOk result (IsJudged test.now) }
 {
     let order = order_of(ways, alloc)?;
     if !is_order(events, order.as_slice()) {
-        return Ok(Some(Judged::Untold));
+        return Ok(Judged::Untold);
     }
     if !is_less(NO_COST, least) {
-        return Ok(Some(Judged::More));
+        return Ok(Judged::More);
     }
     let events = events.to_vec(alloc)?;
-    Ok(Some(Judged::Less(Shown::Execution { events, order }, NO_COST)))
+    Ok(Judged::Less(Shown::Execution { events, order }, NO_COST))
 }
 
+/// Of a candidate that isn't coherent a cycle at one location.
 fn incoherent(
     test: &LitmusTest,
     events: &[MemoryEvent],
     alloc: Global,
 ) -> Result<Option<Judged>, AllocError>
-    ensures { IfOk result (λ judged. IfSome judged (IsJudged test.now)) }
+    ensures judged { IfOk result (λ judged. IfSome judged (IsJudged test.now)) }
+    ensures none { IfOk result (λ judged. judged ≡ None → is_candidate test.now events.now ≡ false) }
 {
-    let ways = Ways::at_one_location(events, alloc)?;
-    let edges = least_cycle(events, &ways, alloc)?;
-    if !is_cycle(events, edges.as_slice()) {
+    if !is_candidate(test, events) {
         return Ok(None);
     }
-    if is_candidate(test, events) && stays_at_one_location(events, edges.as_slice()) {
+    let ways = Ways::at_one_location(events, alloc)?;
+    let edges = least_cycle(events, &ways, alloc)?;
+    if is_cycle(events, edges.as_slice()) && stays_at_one_location(events, edges.as_slice()) {
         let events = events.to_vec(alloc)?;
         return Ok(Some(Judged::Last(Shown::Incoherent { events, edges })));
     }
-    Ok(None)
+    Ok(Some(Judged::Untold))
 }
 
+/// Of a coherent candidate what breaks an AMO or a store-conditional.
 fn atomicity(
     test: &LitmusTest,
     events: &[MemoryEvent],
     alloc: Global,
 ) -> Result<Option<Judged>, AllocError>
-    ensures { IfOk result (λ judged. IfSome judged (IsJudged test.now)) }
+    ensures judged { IfOk result (λ judged. IfSome judged (IsJudged test.now)) }
+    ensures none { IfOk result (λ judged. judged ≡ None
+        → (is_candidate test.now events.now && is_coherent_execution events.now) ≡ false) }
 {
-    let Some(broken) = broken(events) else {
+    if !is_candidate(test, events) || !is_coherent(events) {
         return Ok(None);
-    };
-    if is_broken(events, broken) && is_candidate(test, events) && is_coherent(events) {
-        let events = events.to_vec(alloc)?;
-        return Ok(Some(Judged::Last(Shown::Atomicity { events, broken })));
     }
-    Ok(None)
+    if let Some(broken) = broken(events) {
+        if is_broken(events, broken) {
+            let events = events.to_vec(alloc)?;
+            return Ok(Some(Judged::Last(Shown::Atomicity { events, broken })));
+        }
+    }
+    Ok(Some(Judged::Untold))
 }
