@@ -34,9 +34,9 @@ pub record Grows (before after : Findings) : Type 0 where
   pub fitting : before.fitting ≤ after.fitting
 
 -- All that comes of what is open was looked at.
-pub record IsSearched (test : LitmusTest) (runs : AllRuns) (chosen : List ℕ) (demand : Demand) (open : List Open)
+pub record IsSearched (test : LitmusTest) (runs : AllRuns) (chosen : List ℕ) (demand : Demand) (left : List Open)
     (events : List MemoryEvent) (findings : Findings) : Type 0 where
-  pub each : (all : List MemoryEvent) → Comes test open events all
+  pub each : (all : List MemoryEvent) → Comes test left events all
       → IsTrue (is_wanted test runs chosen demand all) → Counted findings
 
 -- So was what comes of the last choices, of so many.

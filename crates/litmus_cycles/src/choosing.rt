@@ -15,10 +15,10 @@ use std::alloc::{AllocError, Global};
 
 /// Whether what is open can be decided by this choice: the event with that index, or, one past the last, what is there
 /// at the start.
-pub(crate) fn may_choose(test: &LitmusTest, open: Open, choice: usize, events: &[MemoryEvent]) -> bool
-    ensures { result ≡ may_choose test.now open choice events.now }
+pub(crate) fn may_choose(test: &LitmusTest, what: Open, choice: usize, events: &[MemoryEvent]) -> bool
+    ensures { result ≡ may_choose test.now what choice events.now }
 {
-    match open {
+    match what {
         Open::Place { location, .. } => may_place(events, location, choice),
         Open::Source(index) => may_give(test, events, index, choice),
     }
@@ -70,14 +70,14 @@ fn may_have(event: &MemoryEvent, write: &MemoryEvent, is_itself: bool) -> bool
 
 /// The events where what is open is decided so.
 pub(crate) fn with_choice(
-    open: Open,
+    what: Open,
     choice: usize,
     events: &[MemoryEvent],
     alloc: Global,
 ) -> Result<Vec<MemoryEvent>, AllocError>
-    ensures { IfOk result (λ next. next.items ≡ with_choice open choice events.now) }
+    ensures { IfOk result (λ next. next.items ≡ with_choice what choice events.now) }
 {
-    match open {
+    match what {
         Open::Place { rank, .. } => with_rank(events, choice, rank, alloc),
         Open::Source(index) => with_source(events, index, choice, alloc),
     }

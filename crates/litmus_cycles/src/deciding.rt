@@ -24,8 +24,8 @@ pub(crate) struct Asked<'test, 'runs, 'chosen> {
 
 impl Asked<'_, '_, '_> {
     /// Whether something may come of a choice that was made of what was open.
-    pub fn may_come(&self, open: Open, choice: usize, events: &[MemoryEvent]) -> bool {
-        match open {
+    pub fn may_come(&self, what: Open, choice: usize, events: &[MemoryEvent]) -> bool {
+        match what {
             Open::Place { .. } => self.may_stand(events, choice),
             Open::Source(index) => self.may_read(events, index),
         }

@@ -76,7 +76,8 @@ impl Ending<'_, '_, '_, '_> {
         ensures { result ≡ register_of self.now.runs.now self.now.chosen.now hart register }
     {
         let index = *self.chosen.get(usize::from(hart))?;
-        let run = self.runs.run(usize::from(hart), index)?;
+        let ways = self.runs.harts.get(usize::from(hart))?;
+        let run = ways.runs.get(index)?;
         run.registers.get(usize::from(register)).copied()
     }
 

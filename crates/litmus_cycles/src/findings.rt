@@ -67,9 +67,9 @@ impl Findings {
     }
 
     /// Counts candidates of ways that are chosen.
-    pub fn count(&mut self, candidates: u64)
-        ensures shown { self.new.shown ≡ self.old.shown }
-        ensures over { self.new.is_over ≡ self.old.is_over }
+    pub fn count(&mut self, test: &LitmusTest, candidates: u64)
+        requires { IsFound test.now self.old }
+        ensures found { IsFound test.now self.new }
         ensures grows { Grows self.old self.new }
     {
         self.candidates = self.candidates.saturating_add(candidates);

@@ -23,11 +23,11 @@ pub(crate) fn open_choices(
     locations: usize,
     alloc: Global,
 ) -> Result<Vec<Open>, AllocError>
-    ensures { IfOk result (λ open. open.items ≡ all_open events.now 0 locations) }
+    ensures { IfOk result (λ found. found.items ≡ all_open events.now 0 locations) }
 {
-    let mut open = Vec::new(alloc);
-    add_all(events, 0, locations, &mut open)?;
-    Ok(open)
+    let mut found = Vec::new(alloc);
+    add_all(events, 0, locations, &mut found)?;
+    Ok(found)
 }
 
 /// Adds what is to be decided of so many locations from this one on.
@@ -35,15 +35,15 @@ fn add_all(
     events: &[MemoryEvent],
     location: usize,
     left: usize,
-    open: &mut Vec<Open>,
+    found: &mut Vec<Open>,
 ) -> Result<(), AllocError>
-    ensures { OnOk result (open.new.items ≡ open.old.items ++ all_open events.now location left) }
+    ensures { OnOk result (found.new.items ≡ found.old.items ++ all_open events.now location left) }
 {
     if left == 0 {
         return Ok(());
     }
-    add_open(events, location, open)?;
-    add_all(events, location.saturating_add(1), left - 1, open)
+    add_open(events, location, found)?;
+    add_all(events, location.saturating_add(1), left - 1, found)
 }
 
 /// Adds what is to be decided of a location: the order of its writes from the last one to the first, then what is read
@@ -51,26 +51,26 @@ fn add_all(
 pub(crate) fn add_open(
     events: &[MemoryEvent],
     location: usize,
-    open: &mut Vec<Open>,
+    found: &mut Vec<Open>,
 ) -> Result<(), AllocError>
-    ensures { OnOk result (open.new.items ≡ open.old.items ++ open_at events.now location) }
+    ensures { OnOk result (found.new.items ≡ found.old.items ++ open_at events.now location) }
 {
-    add_places(location, count_writes(events, location), open)?;
-    add_sources(events, location, 0, open)
+    add_places(location, count_writes(events, location), found)?;
+    add_sources(events, location, 0, found)
 }
 
 /// Adds so many places of a location, the last one first.
-fn add_places(location: usize, count: usize, open: &mut Vec<Open>) -> Result<(), AllocError>
-    ensures { OnOk result (open.new.items ≡ open.old.items ++ places location count) }
+fn add_places(location: usize, count: usize, found: &mut Vec<Open>) -> Result<(), AllocError>
+    ensures { OnOk result (found.new.items ≡ found.old.items ++ places location count) }
 {
     if count == 0 {
         return Ok(());
     }
-    open.push(Open::Place {
+    found.push(Open::Place {
         location,
         rank: count,
     })?;
-    add_places(location, count - 1, open)
+    add_places(location, count - 1, found)
 }
 
 /// Adds those of these events that read a location, or fail to write there; the first of them has this index.
@@ -78,17 +78,17 @@ fn add_sources(
     events: &[MemoryEvent],
     location: usize,
     index: usize,
-    open: &mut Vec<Open>,
+    found: &mut Vec<Open>,
 ) -> Result<(), AllocError>
-    ensures { OnOk result (open.new.items ≡ open.old.items ++ sources location index events.now) }
+    ensures { OnOk result (found.new.items ≡ found.old.items ++ sources location index events.now) }
 {
     let [event, rest @ ..] = events else {
         return Ok(());
     };
     if event.location == location && has_source(event) {
-        open.push(Open::Source(index))?;
+        found.push(Open::Source(index))?;
     }
-    add_sources(rest, location, index.saturating_add(1), open)
+    add_sources(rest, location, index.saturating_add(1), found)
 }
 
 /// Whether it reads, or is a store-conditional that fails.

@@ -1,6 +1,6 @@
 //! Whether something may come of each location alone, so that none is gone through for each way of another in vain.
 
-ghost use Rattle.std.specs.Prelude.{◌≡◌};
+ghost use Rattle.std.specs.Prelude.{◌≡◌, IfOk, true};
 ghost use Rattle.litmus_cycles.specs.Searched.{IsFound, Grows};
 
 use crate::deciding::Asked;
@@ -10,8 +10,26 @@ use crate::open::{Open, add_open};
 use crate::searching::choose;
 use std::alloc::{AllocError, Global};
 
+/// Whether the candidates of these events are given up, since nothing can come of some location.
+pub(crate) fn is_given_up(
+    asked: &Asked<'_, '_, '_>,
+    events: &[MemoryEvent],
+    findings: &mut Findings,
+    alloc: Global,
+) -> Result<bool, AllocError>
+    requires { IsFound asked.now.test.now findings.old }
+    ensures found { IsFound asked.now.test.now findings.new }
+    ensures grows { Grows findings.old findings.new }
+    ensures given_up { IfOk result (λ given_up. given_up ≡ true → findings.old.gives_up ≡ true) }
+{
+    if !findings.gives_up {
+        return Ok(false);
+    }
+    Ok(!are_possible(asked, events, findings, alloc)?)
+}
+
 /// Whether something may come of each location alone.
-pub(crate) fn are_possible(
+fn are_possible(
     asked: &Asked<'_, '_, '_>,
     events: &[MemoryEvent],
     findings: &mut Findings,
@@ -25,9 +43,9 @@ pub(crate) fn are_possible(
         return Ok(false);
     }
     for location in 0..asked.test.words.len() {
-        let mut open = Vec::new(alloc);
-        add_open(events, location, &mut open)?;
-        if !is_possible(asked, open.as_slice(), events, findings, alloc)? {
+        let mut left = Vec::new(alloc);
+        add_open(events, location, &mut left)?;
+        if !is_possible(asked, left.as_slice(), events, findings, alloc)? {
             return Ok(false);
         }
     }
@@ -37,7 +55,7 @@ pub(crate) fn are_possible(
 /// Whether what is open can be decided in some way that something may come of.
 fn is_possible(
     asked: &Asked<'_, '_, '_>,
-    open: &[Open],
+    left: &[Open],
     events: &[MemoryEvent],
     findings: &mut Findings,
     alloc: Global,
@@ -46,7 +64,7 @@ fn is_possible(
     ensures found { IsFound asked.now.test.now findings.new }
     ensures grows { Grows findings.old findings.new }
 {
-    let [first, rest @ ..] = open else {
+    let [first, rest @ ..] = left else {
         return Ok(true);
     };
     let last = events.len();

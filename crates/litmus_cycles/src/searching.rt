@@ -1,7 +1,7 @@
 //! The search through all candidates of a demand: each hart's way, then one open choice after the other.
 
-ghost use Rattle.std.specs.Prelude.{◌≡◌, ◌≤◌, ◌++◌, [], IfOk, IfSome, OnOk, None, true, false, length};
-ghost use Rattle.litmus_cycles.specs.Choices.{may_choose, with_choice, all_open, events_of, undecided, undecided_all};
+ghost use Rattle.std.specs.Prelude.{◌≡◌, ◌≤◌, ◌++◌, [], ◌∷◌, IfOk, IfSome, OnOk, None, true, false, length};
+ghost use Rattle.litmus_cycles.specs.Choices.{accesses_of, may_choose, with_choice, all_open, events_of, undecided, undecided_all};
 ghost use Rattle.litmus_cycles.specs.Searched.{IsFound, Grows, Counted, IsSearched, AreSearched};
 
 use crate::choosing::{may_choose, with_choice};
@@ -10,7 +10,7 @@ use crate::demand::Demand;
 use crate::event::MemoryEvent;
 use crate::findings::Findings;
 use crate::open::{Open, count_candidates, open_choices};
-use crate::possible::are_possible;
+use crate::possible::is_given_up;
 use litmus_runs::{Access, AllRuns, HartRuns, MOST_ACCESSES};
 use litmus_tests::LitmusTest;
 use std::alloc::{AllocError, Global};
@@ -44,9 +44,7 @@ fn search_by(
     ensures all { IfOk result (AreSearched test.now runs.now [] demand runs.now.harts.items) }
 {
     let mut findings = Findings::new(gives_up, runs.is_whole);
-    let mut chosen = Vec::new(alloc);
-    let harts = runs.harts.as_slice();
-    choose_ways(test, runs, demand, harts, &mut chosen, &mut findings, alloc)?;
+    choose_ways(test, runs, demand, runs.harts.as_slice(), &[], &mut findings, alloc)?;
     Ok(findings)
 }
 
@@ -56,30 +54,37 @@ fn choose_ways(
     runs: &AllRuns,
     demand: Demand,
     left: &[HartRuns],
-    chosen: &mut Vec<usize>,
+    chosen: &[usize],
     findings: &mut Findings,
     alloc: Global,
 ) -> Result<(), AllocError>
     requires { IsFound test.now findings.old }
     ensures found { IsFound test.now findings.new }
     ensures grows { Grows findings.old findings.new }
-    ensures same { OnOk result (chosen.new.items ≡ chosen.old.items) }
-    ensures all { OnOk result (AreSearched test.now runs.now chosen.old.items demand left.now findings.new) }
+    ensures all { OnOk result (AreSearched test.now runs.now chosen.now demand left.now findings.new) }
 {
+    if is_passed_over(test, runs, demand, chosen, findings) {
+        return Ok(());
+    }
     let [hart, rest @ ..] = left else {
-        return relate(test, runs, demand, chosen.as_slice(), findings, alloc);
+        return relate(test, runs, demand, chosen, findings, alloc);
     };
     for index in 0..hart.runs.len() {
         if findings.is_over {
             return Ok(());
         }
-        chosen.push(index)?;
-        if !is_passed_over(test, runs, demand, chosen.as_slice(), findings) {
-            choose_ways(test, runs, demand, rest, chosen, findings, alloc)?;
-        }
-        chosen.pop();
+        let next = with_way(chosen, index, alloc)?;
+        choose_ways(test, runs, demand, rest, next.as_slice(), findings, alloc)?;
     }
     Ok(())
+}
+
+fn with_way(chosen: &[usize], index: usize, alloc: Global) -> Result<Vec<usize>, AllocError>
+    ensures { IfOk result (λ next. next.items ≡ chosen.now ++ index ∷ []) }
+{
+    let mut next = chosen.to_vec(alloc)?;
+    next.push(index)?;
+    Ok(next)
 }
 
 /// Whether these ways are given up, since the registers rule the condition out.
@@ -92,16 +97,13 @@ fn is_passed_over(
 ) -> bool
     ensures { result ≡ true → findings.now.gives_up ≡ true }
 {
-    if !findings.gives_up {
-        return false;
-    }
     let asked = Asked {
         test,
         runs,
         chosen,
         demand,
     };
-    asked.is_ruled_out()
+    findings.gives_up && asked.is_ruled_out()
 }
 
 /// Goes through all candidates of the ways that are chosen.
@@ -119,8 +121,7 @@ fn relate(
     ensures all { OnOk result (AreSearched test.now runs.now chosen.now demand [] findings.new) }
 {
     let mut events = Vec::new(alloc);
-    let locations = test.words.len();
-    if !add_events(runs, 0, chosen, &mut events)? || !are_at_locations(events.as_slice(), locations) {
+    if !add_events(runs, 0, chosen, &mut events)? {
         findings.leave_out(test);
         return Ok(());
     }
@@ -130,9 +131,6 @@ fn relate(
         chosen,
         demand,
     };
-    if !asked.is_ruled_out() {
-        findings.count(count_candidates(events.as_slice(), locations));
-    }
     relate_events(&asked, events.as_slice(), findings, alloc)
 }
 
@@ -148,11 +146,25 @@ fn relate_events(
     ensures all { OnOk result (IsSearched asked.now.test.now asked.now.runs.now asked.now.chosen.now asked.now.demand
         (all_open events.now 0 (length asked.now.test.now.words.items)) events.now findings.new) }
 {
-    if findings.gives_up && !are_possible(asked, events, findings, alloc)? {
+    let locations = asked.test.words.len();
+    if !are_at_locations(events, locations) {
+        findings.leave_out(asked.test);
         return Ok(());
     }
-    let open = open_choices(events, asked.test.words.len(), alloc)?;
-    decide(asked, open.as_slice(), events, findings, alloc)
+    findings.count(asked.test, count_asked(asked, events, locations));
+    if is_given_up(asked, events, findings, alloc)? {
+        return Ok(());
+    }
+    let left = open_choices(events, locations, alloc)?;
+    decide(asked, left.as_slice(), events, findings, alloc)
+}
+
+/// How many candidates these ways have, if the registers don't rule the condition out.
+fn count_asked(asked: &Asked<'_, '_, '_>, events: &[MemoryEvent], locations: usize) -> u64 {
+    if asked.is_ruled_out() {
+        return 0;
+    }
+    count_candidates(events, locations)
 }
 
 /// Adds the events of the chosen runs, from this hart on. Answers false where there are too many.
@@ -168,15 +180,24 @@ fn add_events(
     let [index, rest @ ..] = chosen else {
         return Ok(true);
     };
-    let Some(run) = runs.run(hart, *index) else {
+    let Some(accesses) = accesses_of(runs, hart, *index) else {
         return Ok(false);
     };
-    if events.len().saturating_add(run.accesses.len()) > MOST_ACCESSES {
+    if events.len().saturating_add(accesses.len()) > MOST_ACCESSES {
         return Ok(false);
     }
     let first = events.len();
-    add_accesses(hart, first, 0, run.accesses.as_slice(), events)?;
+    add_accesses(hart, first, 0, accesses, events)?;
     add_events(runs, hart.saturating_add(1), rest, events)
+}
+
+/// What a way of a hart does with memory.
+fn accesses_of(runs: &AllRuns, hart: usize, index: usize) -> Option<&[Access]>
+    ensures { IfSome result (λ accesses. accesses_of runs.now.harts.items hart index ≡ accesses.now) }
+{
+    let ways = runs.harts.get(hart)?;
+    let run = ways.runs.get(index)?;
+    Some(run.accesses.as_slice())
 }
 
 /// Adds the accesses of a hart, from this place on; the first of all has this index.
@@ -225,7 +246,7 @@ fn are_at_locations(events: &[MemoryEvent], locations: usize) -> bool {
 /// Decides what is open in each way, the last event first, and takes what comes of it.
 fn decide(
     asked: &Asked<'_, '_, '_>,
-    open: &[Open],
+    left: &[Open],
     events: &[MemoryEvent],
     findings: &mut Findings,
     alloc: Global,
@@ -234,9 +255,9 @@ fn decide(
     ensures found { IsFound asked.now.test.now findings.new }
     ensures grows { Grows findings.old findings.new }
     ensures all { OnOk result (IsSearched asked.now.test.now asked.now.runs.now asked.now.chosen.now asked.now.demand
-        open.now events.now findings.new) }
+        left.now events.now findings.new) }
 {
-    let [first, rest @ ..] = open else {
+    let [first, rest @ ..] = left else {
         return take(asked, events, findings, alloc);
     };
     let last = events.len();
@@ -255,7 +276,7 @@ fn decide(
 /// The events where this choice is made, which is counted; none where it can't be, or is given up.
 pub(crate) fn choose(
     asked: &Asked<'_, '_, '_>,
-    open: Open,
+    what: Open,
     choice: usize,
     events: &[MemoryEvent],
     findings: &mut Findings,
@@ -264,15 +285,15 @@ pub(crate) fn choose(
     requires { IsFound asked.now.test.now findings.old }
     ensures found { IsFound asked.now.test.now findings.new }
     ensures grows { Grows findings.old findings.new }
-    ensures some { IfOk result (λ made. IfSome made (λ next. next.items ≡ with_choice open choice events.now)) }
+    ensures some { IfOk result (λ made. IfSome made (λ next. next.items ≡ with_choice what choice events.now)) }
     ensures none { IfOk result (λ made. made ≡ None → findings.old.gives_up ≡ false
-        → may_choose asked.now.test.now open choice events.now ≡ false) }
+        → may_choose asked.now.test.now what choice events.now ≡ false) }
 {
-    if !may_choose(asked.test, open, choice, events) {
+    if !may_choose(asked.test, what, choice, events) {
         return Ok(None);
     }
-    let next = with_choice(open, choice, events, alloc)?;
-    if findings.gives_up && !asked.may_come(open, choice, next.as_slice()) {
+    let next = with_choice(what, choice, events, alloc)?;
+    if findings.gives_up && !asked.may_come(what, choice, next.as_slice()) {
         return Ok(None);
     }
     findings.try_one(asked.test);

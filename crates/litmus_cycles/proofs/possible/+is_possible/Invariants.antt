@@ -3,7 +3,7 @@ use Rattle.litmus_cycles.specs.Searched.{IsFound, Grows}
 use Rattle.litmus_cycles.proofs.possible.+is_possible.Given as goal
 
 abbrev pub decreases-is_possible : goal.decreases-is_possible
-decreases-is_possible l = length l.open.now
+decreases-is_possible l = length l.left.now
 
 abbrev pub invariant-loop-turn : goal.invariant-loop-turn
 invariant-loop-turn l = record {

@@ -1,4 +1,4 @@
-use Rattle.std.proofs.Common.{◌≡◌, length}
+use Rattle.std.proofs.Common.{length}
 use Rattle.litmus_cycles.specs.Searched.{IsFound, Grows}
 use Rattle.litmus_cycles.proofs.Wholes.{AreSearchedBelow}
 use Rattle.litmus_cycles.proofs.searching.+choose_ways.Given as goal
@@ -10,6 +10,5 @@ abbrev pub invariant-loop-index : goal.invariant-loop-index
 invariant-loop-index l = record {
   found : IsFound l.test l.findings;
   grows : Grows l.initial.findings l.findings;
-  same : l.chosen.items ≡ l.initial.chosen.items;
-  below : AreSearchedBelow l.test l.runs l.chosen.items l.demand l.index l.rest l.findings;
+  below : AreSearchedBelow l.test l.runs l.chosen l.demand l.index l.rest l.findings;
 }

@@ -3,7 +3,7 @@ use Rattle.litmus_cycles.specs.Searched.{IsFound, Grows, IsSearchedFrom}
 use Rattle.litmus_cycles.proofs.searching.+decide.Given as goal
 
 abbrev pub decreases-decide : goal.decreases-decide
-decreases-decide l = length l.open.now
+decreases-decide l = length l.left.now
 
 abbrev pub invariant-loop-turn : goal.invariant-loop-turn
 invariant-loop-turn l = record {
