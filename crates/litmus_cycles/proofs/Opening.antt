@@ -44,17 +44,18 @@ joined harts hart index first rest accesses old mid all begun same more then =
     ∙ ap (λ xs. old ++ (undecided_all hart first 0 xs ++ events_of harts (after hart) (first + length xs) rest))
     (sym same)
 
-pub events_next : (harts : List HartRuns) (hart first : ℕ) (chosen : List ℕ) (accesses : List Access)
-    (old mid all : List MemoryEvent) → first ≡ length old → 1 ≤ length chosen
+pub events_next : (harts : List HartRuns) (hart first next : ℕ) (chosen : List ℕ) (accesses : List Access)
+    (old mid all : List MemoryEvent) → first ≡ length old → next ≡ after hart → 1 ≤ length chosen
     → accesses_of harts hart (get_or chosen 0 0) ≡ accesses
     → mid ≡ old ++ undecided_all hart first 0 accesses
-    → all ≡ mid ++ events_of harts (after hart) (length mid) (take (length chosen - 1) (drop 1 chosen))
+    → all ≡ mid ++ events_of harts next (length mid) (take (length chosen - 1) (drop 1 chosen))
     → all ≡ old ++ events_of harts hart (length old) chosen
-events_next harts hart first [] accesses old mid all begun some same more then = absurd (omega (arith, some))
-events_next harts hart first (index ∷ rest) accesses old mid all begun some same more then =
+events_next harts hart first next [] accesses old mid all begun on some same more then = absurd (omega (arith, some))
+events_next harts hart first next (index ∷ rest) accesses old mid all begun on some same more then =
     let count : length (index ∷ rest) - 1 ≡ length rest = omega arith in
     let whole : take (length (index ∷ rest) - 1) rest ≡ rest =
         ap (λ n. take n rest) count ∙ take_all (length rest) rest (omega arith) in
     joined harts hart index first rest accesses old mid all begun same more
-    (then ∙ ap (λ xs. mid ++ events_of harts (after hart) (length mid) xs) whole)
+    (then ∙ ap (λ xs. mid ++ events_of harts next (length mid) xs) whole
+    ∙ ap (λ n. mid ++ events_of harts n (length mid) rest) on)
     ∙ ap (λ n. old ++ events_of harts hart n (index ∷ rest)) begun
