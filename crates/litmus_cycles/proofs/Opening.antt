@@ -35,9 +35,9 @@ joined : (harts : List HartRuns) (hart index first : ℕ) (rest : List ℕ) (acc
 joined harts hart index first rest accesses old mid all begun same more then =
     let made : List MemoryEvent = undecided_all hart first 0 accesses in
     let count : length mid ≡ first + length accesses =
-        ap length more ∙ length-append old made
-        ∙ ap (λ n. length old + n) (length_undecided hart first 0 accesses)
-        ∙ ap (λ n. n + length accesses) (sym begun) in
+    ap length more ∙ length-append old made
+    ∙ ap (λ n. length old + n) (length_undecided hart first 0 accesses)
+    ∙ ap (λ n. n + length accesses) (sym begun) in
     then ∙ ap (λ n. mid ++ events_of harts (after hart) n rest) count
     ∙ ap (λ xs. xs ++ events_of harts (after hart) (first + length accesses) rest) more
     ∙ append_assoc old made (events_of harts (after hart) (first + length accesses) rest)
@@ -54,7 +54,7 @@ events_next harts hart first next [] accesses old mid all begun on some same mor
 events_next harts hart first next (index ∷ rest) accesses old mid all begun on some same more then =
     let count : length (index ∷ rest) - 1 ≡ length rest = omega arith in
     let whole : take (length (index ∷ rest) - 1) rest ≡ rest =
-        ap (λ n. take n rest) count ∙ take_all (length rest) rest (omega arith) in
+    ap (λ n. take n rest) count ∙ take_all (length rest) rest (omega arith) in
     joined harts hart index first rest accesses old mid all begun same more
     (then ∙ ap (λ xs. mid ++ events_of harts next (length mid) xs) whole
     ∙ ap (λ n. mid ++ events_of harts n (length mid) rest) on)

@@ -41,7 +41,7 @@ below_next test runs chosen demand index rest before after below grows one = rec
         | inr no_less ↦
             let same : i ≡ index = omega (arith, less, no_less) in
             let e : chosen ++ i ∷ more ≡ chosen ++ index ∷ [] ++ more =
-                ap (λ k. chosen ++ k ∷ more) same ∙ sym (append_assoc chosen (index ∷ []) more) in
+            ap (λ k. chosen ++ k ∷ more) same ∙ sym (append_assoc chosen (index ∷ []) more) in
             one.each more ways all (subst (λ ways. IsCandidateOf test runs.harts.items ways all) e comes)
             (subst (λ ways. IsTrue (is_wanted test runs ways demand all)) e wanted)
       ];
@@ -163,6 +163,6 @@ pub related : (test : LitmusTest) (runs : AllRuns) (chosen : List ℕ) (demand :
     → AreSearched test runs chosen demand [] findings
 related test runs chosen demand start events findings none made searched =
     let e : events_of runs.harts.items 0 0 chosen ≡ events =
-        sym (made ∙ ap (λ xs. xs ++ events_of runs.harts.items 0 (length xs) chosen) none) in
+    sym (made ∙ ap (λ xs. xs ++ events_of runs.harts.items 0 (length xs) chosen) none) in
     none_left test runs chosen demand findings (λ all comes wanted.
     searched.each all (subst (λ es. Comes test (all_open es 0 (length test.words.items)) es all) e comes) wanted)

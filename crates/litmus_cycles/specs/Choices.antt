@@ -81,7 +81,7 @@ with_rank events index rank =
 abbrev pub with_source : List MemoryEvent → ℕ → ℕ → List MemoryEvent
 with_source events index choice =
     option_map_or (λ event. slice_set events index (record event {
-      source = if nat_lt choice (length events) then Some choice else None
+      source = if nat_lt choice (length events) then Some choice else None;
     })) (slice_get events index) events
 
 -- The events where what is open is decided so.
@@ -98,9 +98,15 @@ Comes test (first ∷ rest) events all = (choice : ℕ) × (choice ≤ length ev
 -- An access of a hart as an event of which nothing is decided.
 abbrev pub undecided : ℕ → ℕ → ℕ → Access → MemoryEvent
 undecided hart first place access = record {
-  hart = min hart 255; place = place; step = access.step; location = access.location; reads = access.reads;
-  writes = access.writes; source = None; rank = 0;
-  reserved_by = option_map_or (λ index. Some (min (first + index) (2 ^ 64 - 1))) access.reserved_by None
+  hart = min hart 255;
+  place = place;
+  step = access.step;
+  location = access.location;
+  reads = access.reads;
+  writes = access.writes;
+  source = None;
+  rank = 0;
+  reserved_by = option_map_or (λ index. Some (min (first + index) (2 ^ 64 - 1))) access.reserved_by None;
 }
 
 abbrev pub undecided_all : ℕ → ℕ → ℕ → List Access → List MemoryEvent

@@ -15,7 +15,12 @@ use std::alloc::{AllocError, Global};
 
 /// Whether what is open can be decided by this choice: the event with that index, or, one past the last, what is there
 /// at the start.
-pub(crate) fn may_choose(test: &LitmusTest, what: Open, choice: usize, events: &[MemoryEvent]) -> bool
+pub(crate) fn may_choose(
+    test: &LitmusTest,
+    what: Open,
+    choice: usize,
+    events: &[MemoryEvent],
+) -> bool
     ensures { result ≡ may_choose test.now what choice events.now }
 {
     match what {

@@ -72,7 +72,14 @@ fn is_possible(
         if findings.is_over {
             return Ok(false);
         }
-        let next = choose(asked, *first, last.saturating_sub(turn), events, findings, alloc)?;
+        let next = choose(
+            asked,
+            *first,
+            last.saturating_sub(turn),
+            events,
+            findings,
+            alloc,
+        )?;
         if let Some(next) = next {
             if is_possible(asked, rest, next.as_slice(), findings, alloc)? {
                 return Ok(true);

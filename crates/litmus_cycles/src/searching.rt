@@ -44,7 +44,15 @@ fn search_by(
     ensures all { IfOk result (AreSearched test.now runs.now [] demand runs.now.harts.items) }
 {
     let mut findings = Findings::new(gives_up, runs.is_whole);
-    choose_ways(test, runs, demand, runs.harts.as_slice(), &[], &mut findings, alloc)?;
+    choose_ways(
+        test,
+        runs,
+        demand,
+        runs.harts.as_slice(),
+        &[],
+        &mut findings,
+        alloc,
+    )?;
     Ok(findings)
 }
 
@@ -265,7 +273,14 @@ fn decide(
         if findings.is_over {
             return Ok(());
         }
-        let next = choose(asked, *first, last.saturating_sub(turn), events, findings, alloc)?;
+        let next = choose(
+            asked,
+            *first,
+            last.saturating_sub(turn),
+            events,
+            findings,
+            alloc,
+        )?;
         if let Some(next) = next {
             decide(asked, rest, next.as_slice(), findings, alloc)?;
         }
