@@ -9,7 +9,7 @@ ghost use Rattle.litmus_cycles.specs.declared.demand.Demand.TheVariants.{Whole};
 use crate::demand::Demand;
 use crate::explanation::{Explanation, Shown};
 use crate::findings::Findings;
-use crate::searching::search;
+use crate::searching::{search, search_by};
 use litmus_runs::{AllRuns, all_runs};
 use litmus_tests::LitmusTest;
 use std::alloc::{AllocError, Global};
@@ -61,7 +61,7 @@ fn excluded(
     if is_atomicity(&coherent.shown) {
         return Ok(because(&none, none.candidates, coherent.shown));
     }
-    let writes = search(test, runs, Demand::Writes, alloc)?;
+    let writes = search_by(test, runs, Demand::Writes, true, alloc)?;
     if is_incoherent(&writes.shown) {
         return Ok(because(&coherent, none.candidates, writes.shown));
     }

@@ -33,7 +33,8 @@ pub(crate) fn search(
     search_by(test, runs, demand, true, alloc)
 }
 
-fn search_by(
+/// So it does where choices are given up, or none is.
+pub(crate) fn search_by(
     test: &LitmusTest,
     runs: &AllRuns,
     demand: Demand,
