@@ -2,7 +2,7 @@
 use Rattle.std.proofs.Common.{◌≡◌, ℕ, zero, suc, ◌+◌, ◌-◌, ◌≤◌, List, [], ◌∷◌, ◌++◌, length, get_or, take, drop, arith, refl, sym, ap, ◌∙◌}
 use Rattle.std.proofs.lemmas.List.{append_assoc, length-append, take_all}
 use Rattle.litmus_runs.specs.declared.{access.Access.Access, runs.HartRuns.HartRuns}
-use Rattle.litmus_cycles.specs.declared.{event.MemoryEvent.MemoryEvent, open.Open.Open}
+use Rattle.litmus_cycles.specs.declared.{event.MemoryEvent.MemoryEvent}
 use Rattle.litmus_cycles.specs.declared.open.Open.TheVariants.{Place}
 use Rattle.litmus_cycles.specs.Choices.{after, places, open_at, all_open, undecided_all, accesses_of, events_of}
 

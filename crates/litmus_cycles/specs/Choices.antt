@@ -1,13 +1,13 @@
 -- The candidates of a choice of ways: one after the other it is chosen which write stands at each place of the coherence
 -- order of its location (co), which write each read reads, if not the start (rf), and which write broke each
 -- store-conditional that fails. [Alglave, Maranget and Tautschnig 2014, "Herding Cats": candidate executions]
-use Rattle.std.specs.Prelude.{◌≡◌, ℕ, zero, suc, ◌+◌, ◌-◌, ◌^◌, ◌≤◌, ◌<◌, min, ◌==◌, nat_lt, Bool, true, false, not, IsTrue}
+use Rattle.std.specs.Prelude.{◌≡◌, ℕ, zero, suc, ◌+◌, ◌-◌, ◌^◌, ◌≤◌, ◌<◌, min, ◌==◌, nat_lt, Bool, false, not, IsTrue}
 use Rattle.std.specs.Prelude.{◌&&◌, ◌||◌, if◌then◌else◌, List, [], ◌∷◌, ◌++◌, length, slice_get, slice_set}
-use Rattle.std.specs.Prelude.{Option, Some, None}
+use Rattle.std.specs.Prelude.{Some, None}
 use Rattle.std.specs.Option.{option_map_or}
 use Rattle.litmus_tests.specs.declared.test.LitmusTest.{LitmusTest}
 use Rattle.litmus_runs.specs.declared.access.Access.{Access}
-use Rattle.litmus_runs.specs.declared.runs.{AllRuns.AllRuns, HartRuns.HartRuns, Run.Run}
+use Rattle.litmus_runs.specs.declared.runs.{HartRuns.HartRuns}
 use Rattle.litmus_runs.specs.Numbers.{initial_number}
 use Rattle.litmus_cycles.specs.declared.{event.MemoryEvent.MemoryEvent, open.Open.Open}
 use Rattle.litmus_cycles.specs.declared.open.Open.TheVariants.{Place, Source}

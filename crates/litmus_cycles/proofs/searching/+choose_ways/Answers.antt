@@ -1,4 +1,4 @@
-use Rattle.std.proofs.Common.{◌∷◌, [], ◌++◌, ◌-◌, length, take, drop, subst, sym, ◌∙◌, arith}
+use Rattle.std.proofs.Common.{◌-◌, length, take, drop, subst, sym, ◌∙◌, arith}
 use Rattle.litmus_cycles.specs.Searched.{AreSearched}
 use Rattle.litmus_cycles.proofs.Wholes.{below_next, below_all, grows_on, split_first}
 use Rattle.litmus_cycles.proofs.searching.+choose_ways.Goals as goal

@@ -1,4 +1,4 @@
-use Rattle.std.proofs.Common.{◌≡◌, length}
+use Rattle.std.proofs.Common.{length}
 use Rattle.litmus_cycles.specs.Searched.{IsFound, Grows, IsSearchedFrom}
 use Rattle.litmus_cycles.proofs.searching.+decide.Given as goal
 
