@@ -1,6 +1,4 @@
 pub mod Paths
 pub mod Holding
+pub mod Uses
 pub mod Local
-pub mod Live
-pub mod Search
-pub mod Settling
