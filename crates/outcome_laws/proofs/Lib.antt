@@ -2,3 +2,5 @@ pub mod Paths
 pub mod Holding
 pub mod Uses
 pub mod Local
+pub mod Commuting
+pub mod Staying

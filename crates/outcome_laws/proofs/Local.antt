@@ -43,7 +43,7 @@ second_of_both false b both = absurd (grind arith)
 pub both_of : (a b : Bool) → a ≡ true → b ≡ true → (a && b) ≡ true
 both_of a b one two = rw (one, two) refl
 
-one_of_two : (a b : Bool) → (a || b) ≡ true → (a ≡ true) ⊎ (b ≡ true)
+pub one_of_two : (a b : Bool) → (a || b) ≡ true → (a ≡ true) ⊎ (b ≡ true)
 one_of_two true b either = inl refl
 one_of_two false b either = inr either
 
@@ -54,7 +54,7 @@ pub or_second : (a b : Bool) → b ≡ true → (a || b) ≡ true
 or_second true b is = refl
 or_second false b is = is
 
-not_true : (a : Bool) → not a ≡ true → a ≡ false
+pub not_true : (a : Bool) → not a ≡ true → a ≡ false
 not_true true none = absurd (grind arith)
 not_true false none = refl
 
@@ -70,7 +70,7 @@ pub none_put : (out : Option ℕ) → is_some out ≡ false → out ≡ None
 none_put None none = refl
 none_put (Some byte) none = absurd (grind arith)
 
-different : (g h : ℕ) → g ≢ h → (h == g) ≡ false
+pub different : (g h : ℕ) → g ≢ h → (h == g) ≡ false
 different g h other =
     elim (cases_Bool (h == g)) [
       | inl same ↦ absurd (other (grind (arith, nat_tests)))
@@ -108,28 +108,10 @@ all_weaker p q (u ∷ us) weaker all =
     both_of (q u) (list_all q us) (weaker u (first_of_both (p u) (list_all p us) all))
     (all_weaker p q us weaker (second_of_both (p u) (list_all p us) all))
 
--- ---- Two steps of two harts
-
--- Where two tests don't both hold, what each of them changes is changed in either order.
-two_changes : {A : Type 0} → (a b : Bool) (f g : A → A) (x : A) → (a && b) ≡ false
-    → (if b then g (if a then f x else x) else (if a then f x else x))
-    ≡ (if a then f (if b then g x else x) else (if b then g x else x))
-two_changes true true f g x apart = absurd (grind arith)
-two_changes true false f g x apart = refl
-two_changes false true f g x apart = refl
-two_changes false false f g x apart = refl
-
-apart_at : (k h g : ℕ) → (g == h) ≡ false → ((k == h) && (k == g)) ≡ false
-apart_at k h g apart = grind (arith, nat_tests)
-
-apart_writes : (k h g r d e : ℕ) → (g == h) ≡ false → (((k == h) && (r == d)) && ((k == g) && (r == e))) ≡ false
-apart_writes k h g r d e apart = grind (arith, nat_tests)
-
-
 -- ---- What a hart finds behind another's step
 
 -- The word at the pc of a hart isn't written to by another's step, if the code may be written at all.
-abbrev SparesFetch : Setup → ℕ → ℕ → Plain → Type 0
+abbrev pub SparesFetch : Setup → ℕ → ℕ → Plain → Type 0
 SparesFetch setup h g s = code_writable setup.image ≡ true
     → is_written (effect_at setup s h).write (word_of_address (s.pcs g)) ≡ false
 
@@ -137,7 +119,7 @@ pub can_still : (setup : Setup) (h g : ℕ) (s : Plain) → (g == h) ≡ false
     → can_step setup g (stepped setup h s) ≡ can_step setup g s
 can_still setup h g s apart = rw apart refl
 
-pc_still : (setup : Setup) (h g : ℕ) (s : Plain) → (g == h) ≡ false → (stepped setup h s).pcs g ≡ s.pcs g
+pub pc_still : (setup : Setup) (h g : ℕ) (s : Plain) → (g == h) ≡ false → (stepped setup h s).pcs g ≡ s.pcs g
 pc_still setup h g s apart = rw apart refl
 
 spared_byte : (setup : Setup) (h : ℕ) (s : Plain) (a : ℕ)
@@ -149,12 +131,12 @@ spared_byte setup h s a spared =
     spared
 
 -- In a word that isn't written to each byte stays.
-spared_word : (setup : Setup) (h : ℕ) (s : Plain) (word : ℕ) → is_written (effect_at setup s h).write word ≡ false
+pub spared_word : (setup : Setup) (h : ℕ) (s : Plain) (word : ℕ) → is_written (effect_at setup s h).write word ≡ false
     → (a : ℕ) → word_of_address a ≡ word → (stepped setup h s).bytes a ≡ s.bytes a
 spared_word setup h s word spared a is =
     spared_byte setup h s a (subst (λ w. is_written (effect_at setup s h).write w ≡ false) (sym is) spared)
 
-finds_op : (setup : Setup) (h g : ℕ) (s : Plain) → HasItsCode setup s → (g == h) ≡ false → SparesFetch setup h g s
+pub finds_op : (setup : Setup) (h g : ℕ) (s : Plain) → HasItsCode setup s → (g == h) ≡ false → SparesFetch setup h g s
     → op_at_pc setup (stepped setup h s) g ≡ op_at_pc setup s g
 finds_op setup h g s holds apart spares =
     let sh = stepped setup h s in
@@ -169,7 +151,7 @@ finds_op setup h g s holds apart spares =
           ∙ (ap (op_at setup.image) same ∙ sym (op_fixed setup s holds fixed g))
     ]
 
-finds : (setup : Setup) (h g : ℕ) (s : Plain) → HasItsCode setup s → (g == h) ≡ false → SparesFetch setup h g s
+pub finds : (setup : Setup) (h g : ℕ) (s : Plain) → HasItsCode setup s → (g == h) ≡ false → SparesFetch setup h g s
     → computes setup (stepped setup h s) g ≡ computes setup s g
 finds setup h g s holds apart spares =
     let sh = stepped setup h s in
@@ -184,7 +166,7 @@ fits_by image tables h pc op c =
     list_all (λ (u : Use). tables.ahead h pc u.what u.writes) (fetches image pc ++ accesses op c)
     && goes_on_within image tables op pc c.next
 
-fits_still : (setup : Setup) (tables : Tables) (h g : ℕ) (s : Plain) → HasItsCode setup s → (g == h) ≡ false
+pub fits_still : (setup : Setup) (tables : Tables) (h g : ℕ) (s : Plain) → HasItsCode setup s → (g == h) ≡ false
     → SparesFetch setup h g s
     → fits setup tables g (stepped setup h s) ≡ fits setup tables g s
 fits_still setup tables h g s holds apart spares =
@@ -271,7 +253,7 @@ fails_out op c now held is lacks =
       | inr going ↦ rw (going, lacks) ((kind_fails (kind_of op) op (writes_register op) c is).out now)
     ]
 
-fails_same : (op : Op) (c : Computed) (now now2 : ℕ) (held held2 : Bool) → is_conditional (kind_of op) ≡ true
+pub fails_same : (op : Op) (c : Computed) (now now2 : ℕ) (held held2 : Bool) → is_conditional (kind_of op) ≡ true
     → held ≡ false → held2 ≡ false → effect_of op c now held ≡ effect_of op c now2 held2
 fails_same op c now now2 held held2 is lacks lacks2 =
     elim (cases_Bool (is_last c.next)) [
