@@ -4,3 +4,5 @@ pub mod Uses
 pub mod Local
 pub mod Commuting
 pub mod Staying
+pub mod Fitting
+pub mod Live
