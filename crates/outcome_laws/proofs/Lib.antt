@@ -6,3 +6,6 @@ pub mod Commuting
 pub mod Staying
 pub mod Fitting
 pub mod Live
+pub mod Search
+pub mod Settling
+pub mod Seen

@@ -122,7 +122,7 @@ can_still setup h g s apart = rw apart refl
 pub pc_still : (setup : Setup) (h g : ℕ) (s : Plain) → (g == h) ≡ false → (stepped setup h s).pcs g ≡ s.pcs g
 pc_still setup h g s apart = rw apart refl
 
-spared_byte : (setup : Setup) (h : ℕ) (s : Plain) (a : ℕ)
+pub spared_byte : (setup : Setup) (h : ℕ) (s : Plain) (a : ℕ)
     → is_written (effect_at setup s h).write (word_of_address a) ≡ false → (stepped setup h s).bytes a ≡ s.bytes a
 spared_byte setup h s a spared =
     let op = op_at_pc setup s h in
@@ -237,7 +237,7 @@ kind_fails Conditional op writes c is = record {
 }
 kind_fails Atomic op writes c is = absurd (grind arith)
 
-fails_write : (op : Op) (c : Computed) (now : ℕ) (held : Bool) → is_conditional (kind_of op) ≡ true → held ≡ false
+pub fails_write : (op : Op) (c : Computed) (now : ℕ) (held : Bool) → is_conditional (kind_of op) ≡ true → held ≡ false
     → (effect_of op c now held).write ≡ None
 fails_write op c now held is lacks =
     elim (cases_Bool (is_last c.next)) [
@@ -292,7 +292,7 @@ apart_spares setup tables g h s apart can u is =
     (below_each (λ k. apart_from tables g s k u) setup.harts each h (below_of setup h s can)) apart
     (going_of setup h s can)
 
-unwritten : (write : Option Written) (word : ℕ) → write ≡ None → is_written write word ≡ false
+pub unwritten : (write : Option Written) (word : ℕ) → write ≡ None → is_written write word ≡ false
 unwritten write word none = rw none refl
 
 unput : (out : Option ℕ) → out ≡ None → is_some out ≡ false
