@@ -95,7 +95,6 @@ same_step : (h : ℕ) (op oq : Op) (a b : ℕ) (x y : Effect) (s : Plain) → op
 same_step h op oq a b x y s one two three =
     ap (λ o. step_by h o a x s) one ∙ (ap (λ n. step_by h oq n x s) two ∙ ap (λ e. step_by h oq b e s) three)
 
-
 -- ---- Reservations in both orders
 
 abbrev is_reserving : Kind → Bool
@@ -362,7 +361,7 @@ module _ (setup : Setup) (tables : Tables) (good : IsTables setup.image tables) 
   agree = record {
     bytes = bytes_agree;
     output = not_both (is_some x.out) (is_some y.out) (λ put.
-    clears.puts (good.ahead.touches h (s.pcs h) the_output (knows.puts put)));
+        clears.puts (good.ahead.touches h (s.pcs h) the_output (knows.puts put)));
     first = λ going reserving.
         elim (clears.touches (ap is_last (sym next_g) ∙ going) (reserving_touches (kind_of op) reserving)) [
           | inl none ↦ y_spares (word_of_address c.addr) none

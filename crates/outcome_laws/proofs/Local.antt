@@ -390,4 +390,3 @@ own setup tables good g h s apart holds can local after =
 pub fits_on_its_own : FitsOnItsOwn
 fits_on_its_own setup tables good g h s other holds can_g can_h local after =
     own setup tables good g h s (different g h other) holds can_h local after
-

@@ -189,8 +189,7 @@ each_settles setup watched tables good visited enough from s holds begins order 
       state = begins.state;
       reached = record { place = from; way = []; leads = refl; at = begins.at };
       settles = begins.settles;
-    }) leads in
-    (
+    }) leads in (
       bound,
       bound_fits setup watched tables good visited enough from u (has_path setup order s u holds leads) bound,
     )
