@@ -18,17 +18,14 @@ use Rattle.smt_model.specs.Reservations.{reservation_after_write}
 use Rattle.smt_model.specs.Plain.{Plain, register_after, status_after, output_after, is_going_status}
 use Rattle.smt_model.specs.Plain.{op_at_pc, computes, effect_at}
 use Rattle.smt_laws.proofs.{Registers.Reading.effect-next}
-use Rattle.outcome_laws.specs.Paths.{can_step, stepped, HasItsCode}
-use Rattle.outcome_laws.specs.Tables.{Tables, IsTables, op_at, may_go, goes_anywhere, may_follow, is_conditional}
-use Rattle.outcome_laws.specs.Local.{Use, the_output, accesses, fetches, goes_on_within, fits}
-use Rattle.outcome_laws.specs.Local.{apart_from, is_apart, lacks_reservation, is_local, Commute, LocalStepsCommute}
-use Rattle.outcome_laws.proofs.Holding.{op_fixed}
+use Rattle.outcome_laws.specs.Paths.{can_step, stepped}
+use Rattle.outcome_laws.specs.Tables.{Tables, IsTables, IsAsCoded, is_conditional}
+use Rattle.outcome_laws.specs.Local.{the_output, fits, lacks_reservation, is_local}
 use Rattle.outcome_laws.proofs.Uses.{is_written, effect_on, access_lies, byte_stays, same_effect, flipped}
 use Rattle.outcome_laws.proofs.Uses.{reservation_stays, holds_still, holds_never}
-use Rattle.outcome_laws.proofs.Local.{first_of_both, second_of_both, both_of, or_first, or_second, is_false, none_put}
-use Rattle.outcome_laws.proofs.Local.{not_true, one_of_two, different, below_all, below_each, all_weaker, SparesFetch}
-use Rattle.outcome_laws.proofs.Local.{spared_word, finds_op, finds, fits_still, pc_still, IsKnown, known, IsClear, clear}
-use Rattle.outcome_laws.proofs.Local.{fails_same}
+use Rattle.outcome_laws.proofs.Facts.{first_of_both, second_of_both, is_false, not_true}
+use Rattle.outcome_laws.proofs.Known.{IsKnown, known, local_fits, spared_word, coded_next}
+use Rattle.outcome_laws.proofs.Local.{SparesFetch, finds_op, finds, IsClear, clear, fails_same}
 
 -- ---- Two steps of two harts
 
@@ -233,7 +230,7 @@ not_conditional Conditional is also = grind arith
 not_conditional Atomic is also = grind arith
 
 module _ (setup : Setup) (tables : Tables) (good : IsTables setup.image tables) (g h : ℕ) (s : Plain)
-    (apart : (h == g) ≡ false) (holds : HasItsCode setup s) (can : can_step setup h s ≡ true)
+    (apart : (h == g) ≡ false) (coded : IsAsCoded setup tables s) (can : can_step setup h s ≡ true)
     (local : is_local setup tables g s ≡ true) (fitting : fits setup tables h s ≡ true) where
   pub clears : IsClear setup tables g h s
   clears = clear setup tables good g h s apart can local
@@ -267,11 +264,17 @@ module _ (setup : Setup) (tables : Tables) (good : IsTables setup.image tables) 
   y_spares : (word : ℕ) → tables.ahead h (s.pcs h) word true ≡ false → is_written y.write word ≡ false
   y_spares word none = is_false (is_written y.write word) (tables.ahead h (s.pcs h) word true) (knows.writes word) none
 
-  pub fetch_of_h : SparesFetch setup g h s
-  fetch_of_h writable = clears.writes (word_of_address (s.pcs h)) (knows.fetch writable)
+  pub fetch_of_h : SparesFetch setup tables g h s
+  fetch_of_h changes = clears.writes (word_of_address (s.pcs h)) (knows.fetch changes)
 
-  pub fetch_of_g : SparesFetch setup h g s
-  fetch_of_g writable = y_spares (word_of_address (s.pcs g)) (clears.fetch writable)
+  pub fetch_of_g : SparesFetch setup tables h g s
+  fetch_of_g changes = y_spares (word_of_address (s.pcs g)) (clears.fetch changes)
+
+  coded_g : IsAsCoded setup tables (stepped setup g s)
+  coded_g = coded_next setup tables good g s coded (local_fits setup tables g s local)
+
+  pub coded_h : IsAsCoded setup tables (stepped setup h s)
+  coded_h = coded_next setup tables good h s coded fitting
 
   pub back : (g == h) ≡ false
   back = flipped g h apart
@@ -283,8 +286,8 @@ module _ (setup : Setup) (tables : Tables) (good : IsTables setup.image tables) 
       let sg = stepped setup g s in
       let held : sg.reserved h ≡ reservation_after op c.addr x false (s.reserved h) =
       ap (λ own. reservation_after op c.addr x own (s.reserved h)) apart in
-      ap₂ (λ o e. effect_on o e sg.bytes (sg.reserved h)) (finds_op setup g h s holds apart fetch_of_h)
-      (finds setup g h s holds apart fetch_of_h)
+      ap₂ (λ o e. effect_on o e sg.bytes (sg.reserved h)) (finds_op setup tables g h s coded coded_g apart fetch_of_h)
+      (finds setup tables g h s coded coded_g apart fetch_of_h)
       ∙ same_effect oq d sg.bytes s.bytes (sg.reserved h) (s.reserved h) (access_lies setup s h) (λ going touches.
       let spared = clears.writes (word_of_address d.addr) (knows.touches going touches) in
       record {
@@ -326,8 +329,8 @@ module _ (setup : Setup) (tables : Tables) (good : IsTables setup.image tables) 
   says_g : effect_at setup (stepped setup h s) g ≡ x
   says_g =
       let sh = stepped setup h s in
-      ap₂ (λ o e. effect_on o e sh.bytes (sh.reserved g)) (finds_op setup h g s holds back fetch_of_g)
-      (finds setup h g s holds back fetch_of_g)
+      ap₂ (λ o e. effect_on o e sh.bytes (sh.reserved g)) (finds_op setup tables h g s coded coded_h back fetch_of_g)
+      (finds setup tables h g s coded coded_h back fetch_of_g)
       ∙ same_g
 
   -- ---- What both do
@@ -380,12 +383,12 @@ module _ (setup : Setup) (tables : Tables) (good : IsTables setup.image tables) 
       let sh = stepped setup h s in
       let left : stepped setup h sg ≡ step_by h oq d.addr y sg =
       same_step h (op_at_pc setup sg h) oq (computes setup sg h).addr d.addr (effect_at setup sg h) y sg
-      (finds_op setup g h s holds apart fetch_of_h)
-      (ap (λ (e : Computed). e.addr) (finds setup g h s holds apart fetch_of_h)) says_h in
+      (finds_op setup tables g h s coded coded_g apart fetch_of_h)
+      (ap (λ (e : Computed). e.addr) (finds setup tables g h s coded coded_g apart fetch_of_h)) says_h in
       let right : stepped setup g sh ≡ step_by g op c.addr x sh =
       same_step g (op_at_pc setup sh g) op (computes setup sh g).addr c.addr (effect_at setup sh g) x sh
-      (finds_op setup h g s holds back fetch_of_g)
-      (ap (λ (e : Computed). e.addr) (finds setup h g s holds back fetch_of_g)) says_g in
+      (finds_op setup tables h g s coded coded_h back fetch_of_g)
+      (ap (λ (e : Computed). e.addr) (finds setup tables h g s coded coded_h back fetch_of_g)) says_g in
       left
       ∙ (same_state (step_by h oq d.addr y sg) (step_by g op c.addr x sh)
       (swapped g h s op oq c.addr d.addr x y apart agree)

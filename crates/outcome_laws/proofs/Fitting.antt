@@ -18,11 +18,11 @@ use Rattle.smt_model.specs.{Faults.checked, Faults.fault, Words.ProgramImage}
 use Rattle.smt_model.specs.Kinds.{Kind, Computing, Loading, Storing, Reserving, Conditional, Atomic, kind_of}
 use Rattle.smt_model.specs.Kinds.{first_source, second_source, touches_memory}
 use Rattle.smt_model.specs.Plain.{Plain, read_register, op_at_pc, computes}
-use Rattle.outcome_laws.specs.Tables.{may_follow, may_follow_of, may_go, goes_anywhere, Tables, IsTables, IsLiveTable}
+use Rattle.outcome_laws.specs.Tables.{may_follow, may_follow_of, may_go, goes_anywhere, may_change}
 use Rattle.outcome_laws.specs.Tables.{with_live_alone}
 use Rattle.outcome_laws.specs.Local.{Use, accesses, accesses_by, fetches, uses, goes_on_within, fits, is_apart}
 use Rattle.outcome_laws.specs.Local.{lacks_reservation, is_local, is_silent, SilentStepsAreLocal, AllFits, LiveAloneFits}
-use Rattle.outcome_laws.proofs.Local.{both_of, none_put, not_true}
+use Rattle.outcome_laws.proofs.Facts.{both_of, none_put, either_left, either_right}
 
 -- ---- Where an instruction goes on
 
@@ -47,13 +47,6 @@ jumps_to target to goes =
 
 goes_behind : (pc to : ℕ) → Pc (next_pc pc) ≡ Pc to → (to == next_pc pc) ≡ true
 goes_behind pc to goes = let is : next_pc pc ≡ to = one_pc (next_pc pc) to goes in grind (arith, nat_tests)
-
-pub either_left : (a b : Bool) → a ≡ true → (a || b) ≡ true
-either_left a b left = rw left refl
-
-pub either_right : (a b : Bool) → b ≡ true → (a || b) ≡ true
-either_right true b right = refl
-either_right false b right = right
 
 branches_to : (taken : Bool) (pc target to : ℕ) → (if taken then jump_to target else Pc (next_pc pc)) ≡ Pc to
     → (to == target || to == next_pc pc) ≡ true
@@ -136,10 +129,10 @@ always : (us : List Use) → list_all (λ (u : Use). true) us ≡ true
 always [] = refl
 always (u ∷ us) = always us
 
-anywhere : (image : ProgramImage) (op : Op) (pc to : ℕ) → may_follow op pc to ≡ true
-    → may_go image (λ from there. true) op pc to ≡ true
-anywhere image op pc to follows =
-    elim (cases_Bool (code_writable image || goes_anywhere op)) [
+anywhere : (changes : ℕ → Bool) (op : Op) (pc to : ℕ) → may_follow op pc to ≡ true
+    → may_go changes (λ from there. true) op pc to ≡ true
+anywhere changes op pc to follows =
+    elim (cases_Bool (changes pc || goes_anywhere op)) [
       | inl any ↦ rw any refl
       | inr known ↦ rw known follows
     ]
@@ -147,16 +140,16 @@ anywhere image op pc to follows =
 within : (image : ProgramImage) (live : ℕ → ℕ → Bool) (op : Op) (pc : ℕ) (next : Next)
     → ((to : ℕ) → next ≡ Pc to → may_follow op pc to ≡ true)
     → goes_on_within image (with_live_alone live) op pc next ≡ true
-within image live op pc (Pc to) follows = anywhere image op pc to (follows to refl)
+within image live op pc (Pc to) follows = anywhere (may_change image (with_live_alone live)) op pc to (follows to refl)
 within image live op pc (Ended n) follows = refl
 within image live op pc (Stopped cause) follows = refl
 
 every_fits : (setup : Setup) (live : ℕ → ℕ → Bool) (h : ℕ) (s : Plain)
     → fits setup (with_live_alone live) h s ≡ true
 every_fits setup live h s =
-    both_of (list_all (λ (u : Use). true) (uses setup h s))
+    both_of (list_all (λ (u : Use). true) (uses setup (with_live_alone live) h s))
     (goes_on_within setup.image (with_live_alone live) (op_at_pc setup s h) (s.pcs h) (computes setup s h).next)
-    (always (uses setup h s))
+    (always (uses setup (with_live_alone live) h s))
     (within setup.image live (op_at_pc setup s h) (s.pcs h) (computes setup s h).next (follows setup s h))
 
 pub live_alone_fits : LiveAloneFits
@@ -166,12 +159,13 @@ live_alone_fits setup live good = record {
     kept = record {
       used = λ pc is. refl;
       stays = λ pc to goes kept replaces. refl;
-      all = λ writable pc. refl;
+      all = λ pc changes. refl;
     };
     ahead = record {
       stays = λ h pc to what writes goes ahead. refl;
       touches = λ h pc what ahead. refl;
     };
+    rewritten = λ h pc word ahead. refl;
   };
   fits = every_fits setup live;
 }
@@ -201,11 +195,11 @@ silent_uses op c silent =
     ]
 
 pub silent_steps_are_local : SilentStepsAreLocal
-silent_steps_are_local setup tables h s fixed silent fitting =
+silent_steps_are_local setup tables h s stays silent fitting =
     let none = silent_uses (op_at_pc setup s h) (computes setup s h) silent in
-    let fetched : list_all (is_apart setup tables h s) (fetches setup.image (s.pcs h)) ≡ true = rw fixed refl in
+    let fetched : list_all (is_apart setup tables h s) (fetches setup.image tables (s.pcs h)) ≡ true = rw stays refl in
     let accessed : list_all (is_apart setup tables h s) (accesses (op_at_pc setup s h) (computes setup s h)) ≡ true =
     ap (list_all (is_apart setup tables h s)) none in
     both_of (fits setup tables h s) _ fitting
-    (both_of (list_all (is_apart setup tables h s) (fetches setup.image (s.pcs h))) _ fetched
+    (both_of (list_all (is_apart setup tables h s) (fetches setup.image tables (s.pcs h))) _ fetched
     (ap (λ first. first || lacks_reservation setup h s) accessed))

@@ -1,6 +1,8 @@
 pub mod Paths
 pub mod Holding
 pub mod Uses
+pub mod Facts
+pub mod Known
 pub mod Local
 pub mod Commuting
 pub mod Staying

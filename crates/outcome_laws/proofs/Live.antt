@@ -4,7 +4,7 @@ use Rattle.std.specs.Prelude.{List, ◌++◌, Option, Some, None}
 use Rattle.std.specs.List.{list_all}
 use Rattle.std.proofs.Common.{◌∙◌, refl, sym, ap, ap₂, subst, inl, inr, arith}
 use Rattle.std.proofs.{lemmas.Bool.cases_Bool, lemmas.Bool.Decides.nat_tests, Math.Path.fun_ext}
-use Rattle.elf_image.specs.Image.{word_now, code_writable}
+use Rattle.elf_image.specs.Image.{word_now}
 use Rattle.elf_image.proofs.Words.{word_now-same}
 use Rattle.rv_instr.specs.declared.op.Op.{Op}
 use Rattle.events.specs.{declared.effect.Effect.Effect, declared.effect.Next.Next}
@@ -20,24 +20,18 @@ use Rattle.smt_model.specs.{Reservations.reservation_after_write}
 use Rattle.smt_model.specs.Plain.{Plain, is_going_status, register_after, status_after, read_register}
 use Rattle.smt_model.specs.Plain.{op_at_pc, computes, effect_at}
 use Rattle.smt_laws.proofs.{Registers.Reading.effect-next, Done.value-given}
-use Rattle.outcome_laws.specs.{Paths.can_step, Paths.stepped, Paths.HasItsCode}
-use Rattle.outcome_laws.specs.Tables.{Tables, IsTables, op_at, may_go, reads_register, is_conditional}
+use Rattle.outcome_laws.specs.{Paths.can_step, Paths.stepped}
+use Rattle.outcome_laws.specs.Tables.{Tables, IsTables, IsAsCoded, op_at, may_change, may_go, reads_register}
+use Rattle.outcome_laws.specs.Tables.{is_conditional}
 use Rattle.outcome_laws.specs.Tables.{replaces_reservation}
 use Rattle.outcome_laws.specs.Local.{Use, accesses, fetches, goes_on_within, fits, apart_from, is_apart}
 use Rattle.outcome_laws.specs.Local.{lacks_reservation, is_local}
 use Rattle.outcome_laws.specs.Live.{matters, reservation_matters, AreAlike, StepAlike, AlikeStatesStepAlike}
-use Rattle.outcome_laws.proofs.{Holding.op_fixed, Fitting.either_left, Fitting.either_right}
-use Rattle.outcome_laws.proofs.{Local.known, Staying.goes_by_image, Uses.access_lies, Uses.same_effect, Uses.effect_on}
+use Rattle.outcome_laws.proofs.Facts.{first_of_both, second_of_both, either_left, either_right}
+use Rattle.outcome_laws.proofs.Known.{known, op_as_coded, goes_by_image}
+use Rattle.outcome_laws.proofs.Uses.{access_lies, same_effect, effect_on}
 
 -- ---- Small facts of tests
-
-first_and : (a b : Bool) → (a && b) ≡ true → a ≡ true
-first_and true b both = refl
-first_and false b both = both
-
-second_and : (a b : Bool) → (a && b) ≡ true → b ≡ true
-second_and true b both = both
-second_and false b both = absurd (grind arith)
 
 apart_or : (a b : Bool) → (a || b) ≡ true → a ≡ false → b ≡ true
 apart_or true b either none = absurd (grind arith)
@@ -64,54 +58,54 @@ register_by h op x registers g r =
 -- ---- What alike states find
 
 module _ (setup : Setup) (watched : ℕ → Bool) (tables : Tables) (good : IsTables setup.image tables)
-    (s t : Plain) (holds : HasItsCode setup s) (alike : AreAlike watched tables s t) where
+    (s t : Plain) (coded : IsAsCoded setup tables s) (alike : AreAlike watched tables s t) where
   same_op : (h : ℕ) → op_at_pc setup t h ≡ op_at_pc setup s h
   same_op h =
       ap (λ pc. op_of_word (word_now setup.image t.bytes pc)) (sym (alike.pcs h))
       ∙ ap op_of_word (word_now-same setup.image t.bytes s.bytes (λ a. sym (alike.bytes a)) (s.pcs h))
 
-  -- What the tables say of the image they say of memory, or the code may be written, and all are live.
+  -- What the tables say of the image they say of memory, or the code may change, and all are live.
   live_read : (h r : ℕ) → r ≢ 0 → reads_register (op_at_pc setup s h) r ≡ true → tables.live (s.pcs h) r ≡ true
   live_read h r some reads =
-      elim (cases_Bool (code_writable setup.image)) [
-        | inl writable ↦ good.live.all writable (s.pcs h) r some
-        | inr fixed ↦
+      elim (cases_Bool (may_change setup.image tables (s.pcs h))) [
+        | inl changes ↦ good.live.all (s.pcs h) r some changes
+        | inr stays ↦
             good.live.reads (s.pcs h) r some
-            (subst (λ o. reads_register o r ≡ true) (op_fixed setup s holds fixed h) reads)
+            (subst (λ o. reads_register o r ≡ true) (op_as_coded setup tables s coded h stays) reads)
       ]
 
   -- Hart h's instruction goes on there, by the image.
   abbrev Goes : ℕ → ℕ → Type 0
-  Goes h to = may_go setup.image tables.targets (op_at setup.image (s.pcs h)) (s.pcs h) to ≡ true
+  Goes h to = may_go (may_change setup.image tables) tables.targets (op_at setup.image (s.pcs h)) (s.pcs h) to ≡ true
 
   live_stays : (h to r : ℕ) → r ≢ 0 → Goes h to → tables.live to r ≡ true
       → (r == destination (op_at_pc setup s h)) ≡ false → tables.live (s.pcs h) r ≡ true
   live_stays h to r some leads lives other =
-      elim (cases_Bool (code_writable setup.image)) [
-        | inl writable ↦ good.live.all writable (s.pcs h) r some
-        | inr fixed ↦
+      elim (cases_Bool (may_change setup.image tables (s.pcs h))) [
+        | inl changes ↦ good.live.all (s.pcs h) r some changes
+        | inr stays ↦
             good.live.stays (s.pcs h) to r some leads lives
-            (subst (λ o. (r == destination o) ≡ false) (op_fixed setup s holds fixed h) other)
+            (subst (λ o. (r == destination o) ≡ false) (op_as_coded setup tables s coded h stays) other)
       ]
 
   -- So it is of reservations.
   kept_used : (h : ℕ) → is_conditional (kind_of (op_at_pc setup s h)) ≡ true → tables.kept (s.pcs h) ≡ true
   kept_used h is =
-      elim (cases_Bool (code_writable setup.image)) [
-        | inl writable ↦ good.kept.all writable (s.pcs h)
-        | inr fixed ↦
+      elim (cases_Bool (may_change setup.image tables (s.pcs h))) [
+        | inl changes ↦ good.kept.all (s.pcs h) changes
+        | inr stays ↦
             good.kept.used (s.pcs h)
-            (subst (λ o. is_conditional (kind_of o) ≡ true) (op_fixed setup s holds fixed h) is)
+            (subst (λ o. is_conditional (kind_of o) ≡ true) (op_as_coded setup tables s coded h stays) is)
       ]
 
   kept_stays : (h to : ℕ) → Goes h to → tables.kept to ≡ true
       → replaces_reservation (kind_of (op_at_pc setup s h)) ≡ false → tables.kept (s.pcs h) ≡ true
   kept_stays h to leads keeps other =
-      elim (cases_Bool (code_writable setup.image)) [
-        | inl writable ↦ good.kept.all writable (s.pcs h)
-        | inr fixed ↦
+      elim (cases_Bool (may_change setup.image tables (s.pcs h))) [
+        | inl changes ↦ good.kept.all (s.pcs h) changes
+        | inr stays ↦
             good.kept.stays (s.pcs h) to leads keeps
-            (subst (λ o. replaces_reservation (kind_of o) ≡ false) (op_fixed setup s holds fixed h) other)
+            (subst (λ o. replaces_reservation (kind_of o) ≡ false) (op_as_coded setup tables s coded h stays) other)
       ]
 
   can_too : (h : ℕ) → can_step setup h t ≡ can_step setup h s
@@ -177,7 +171,7 @@ module _ (setup : Setup) (watched : ℕ → Bool) (tables : Tables) (good : IsTa
 
   abbrev fits_as : ℕ → ℕ → Op → Computed → Bool
   fits_as h pc op c =
-      list_all (λ (u : Use). tables.ahead h pc u.what u.writes) (fetches setup.image pc ++ accesses op c)
+      list_all (λ (u : Use). tables.ahead h pc u.what u.writes) (fetches setup.image tables pc ++ accesses op c)
       && goes_on_within setup.image tables op pc c.next
 
   same_fits : (h : ℕ) → is_going_status (s.statuses h) ≡ true → fits setup tables h t ≡ fits setup tables h s
@@ -212,10 +206,10 @@ module _ (setup : Setup) (watched : ℕ → Bool) (tables : Tables) (good : IsTa
       ∙ lacks_by (kind_of (op_at_pc setup s h)) (computes setup s h).addr (t.reserved h) (s.reserved h)
       (same_held h going)
 
-  same_fetched : (h : ℕ) → list_all (is_apart setup tables h t) (fetches setup.image (t.pcs h))
-      ≡ list_all (is_apart setup tables h s) (fetches setup.image (s.pcs h))
+  same_fetched : (h : ℕ) → list_all (is_apart setup tables h t) (fetches setup.image tables (t.pcs h))
+      ≡ list_all (is_apart setup tables h s) (fetches setup.image tables (s.pcs h))
   same_fetched h =
-      ap₂ (λ test pc. list_all test (fetches setup.image pc)) (same_apart h) (sym (alike.pcs h))
+      ap₂ (λ test pc. list_all test (fetches setup.image tables pc)) (same_apart h) (sym (alike.pcs h))
 
   same_accessed : (h : ℕ) → is_going_status (s.statuses h) ≡ true
       → list_all (is_apart setup tables h t) (accesses (op_at_pc setup t h) (computes setup t h))
@@ -248,7 +242,7 @@ module _ (setup : Setup) (watched : ℕ → Bool) (tables : Tables) (good : IsTa
       let c = computes setup s h in
       let from : c.next ≡ Pc to =
       sym (effect-next op c (read op s.bytes c.addr) (holds_word (s.reserved h) c.addr)) ∙ is in
-      goes_by_image setup tables h s to holds
+      goes_by_image setup tables h s to coded
       (subst (λ next. goes_on_within setup.image tables op (s.pcs h) next ≡ true) from
       (known setup tables good h s fitting).goes)
 
@@ -265,11 +259,11 @@ module _ (setup : Setup) (watched : ℕ → Bool) (tables : Tables) (good : IsTa
         | inr unwatched ↦
             let both = apart_or (watched r) (is_going_status (status_after next (s.statuses h))
             && tables.live (pc_after next (s.pcs h)) r) now unwatched in
-            let on = goes_to next (s.statuses h) (first_and (is_going_status (status_after next (s.statuses h)))
+            let on = goes_to next (s.statuses h) (first_of_both (is_going_status (status_after next (s.statuses h)))
             (tables.live (pc_after next (s.pcs h)) r) both) in
             let lives : tables.live on.to r ≡ true =
             subst (λ n. tables.live (pc_after n (s.pcs h)) r ≡ true) on.is_so
-            (second_and (is_going_status (status_after next (s.statuses h))) (tables.live (pc_after next (s.pcs h)) r) both) in
+            (second_of_both (is_going_status (status_after next (s.statuses h))) (tables.live (pc_after next (s.pcs h)) r) both) in
             live_matters h r going
             (live_stays h on.to r some (goes_there h on.to fitting on.is_so) lives other)
       ]
@@ -357,11 +351,11 @@ module _ (setup : Setup) (watched : ℕ → Bool) (tables : Tables) (good : IsTa
       let op = op_at_pc setup s h in
       let addr = (computes setup s h).addr in
       let x = effect_at setup s h in
-      let on = goes_to x.next (s.statuses h) (first_and (is_going_status (status_after x.next (s.statuses h)))
+      let on = goes_to x.next (s.statuses h) (first_of_both (is_going_status (status_after x.next (s.statuses h)))
       (tables.kept (pc_after x.next (s.pcs h))) now) in
       let keeps : tables.kept on.to ≡ true =
       subst (λ n. tables.kept (pc_after n (s.pcs h)) ≡ true) on.is_so
-      (second_and (is_going_status (status_after x.next (s.statuses h))) (tables.kept (pc_after x.next (s.pcs h))) now) in
+      (second_of_both (is_going_status (status_after x.next (s.statuses h))) (tables.kept (pc_after x.next (s.pcs h))) now) in
       elim (cases_Bool (replaces_reservation (kind_of op))) [
         | inl replaces ↦
             let going_on : is_last x.next ≡ false = ap is_last on.is_so in
@@ -422,5 +416,5 @@ module _ (setup : Setup) (watched : ℕ → Bool) (tables : Tables) (good : IsTa
       }
 
 pub alike_states_step_alike : AlikeStatesStepAlike
-alike_states_step_alike setup watched tables good s t holds alike h can fitting =
-    step_alike setup watched tables good s t holds alike h can fitting
+alike_states_step_alike setup watched tables good s t coded alike h can fitting =
+    step_alike setup watched tables good s t coded alike h can fitting

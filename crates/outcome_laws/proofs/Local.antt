@@ -1,118 +1,33 @@
--- A local step and any step that fits of another hart come to the same in both orders.
-use Rattle.std.specs.Prelude.{◌≡◌, ◌≢◌, ◌⊎◌, ℕ, zero, suc, ◌<◌, Bool, true, false, not, ◌==◌, ◌&&◌, ◌||◌, if◌then◌else◌}
+-- What a hart finds behind another's step; what a local step leaves alone; and whether a step fits is its own
+-- hart's matter.
+use Rattle.std.specs.Prelude.{◌≡◌, ◌≢◌, ◌⊎◌, ℕ, ◌<◌, Bool, true, false, not, ◌==◌, ◌&&◌, ◌||◌, if◌then◌else◌}
 use Rattle.std.specs.Prelude.{nat_lt, List, [], ◌∷◌, ◌++◌, Option, Some, None, is_some}
 use Rattle.std.specs.List.{list_all}
 use Rattle.std.proofs.Common.{◌∙◌, refl, sym, ap, ap₂, subst, inl, inr, arith}
-use Rattle.std.proofs.{lemmas.Bool.cases_Bool, lemmas.Bool.Decides.nat_tests, Math.Path.fun_ext}
-use Rattle.std.proofs.lemmas.List.Folds.{list_all-append}
-use Rattle.elf_image.specs.Image.{ProgramImage, code_writable, word_now}
+use Rattle.std.proofs.{lemmas.Bool.cases_Bool, lemmas.Bool.Decides.nat_tests}
+use Rattle.elf_image.specs.Image.{ProgramImage, word_now}
 use Rattle.rv_instr.specs.declared.op.Op.{Op}
-use Rattle.events.specs.{declared.effect.Effect.Effect, declared.effect.Next.Next, declared.effect.Written.Written}
-use Rattle.events.specs.declared.effect.Next.TheVariants.{Pc, Ended, Stopped}
-use Rattle.smt_model.specs.{Setup.Setup, Exec.Computed, Nexts.is_last, Nexts.pc_after, declared.config.Status.Status}
-use Rattle.smt_model.specs.{Basics.below, Words.op_of_word}
+use Rattle.events.specs.{declared.effect.Written.Written}
+use Rattle.smt_model.specs.{Setup.Setup, Exec.Computed, Nexts.is_last, Words.op_of_word, Basics.below}
 use Rattle.smt_model.specs.Kinds.{Kind, Computing, Loading, Storing, Reserving, Conditional, Atomic, kind_of}
-use Rattle.smt_model.specs.Kinds.{touches_memory, destination, writes_register}
-use Rattle.smt_model.specs.{Effects.effect_of, Effects.effect_by, Bytes.read, Bytes.byte_after}
-use Rattle.smt_model.specs.Reservations.{word_of_address, holds_word, own_reservation, reservation_after}
-use Rattle.smt_model.specs.Reservations.{reservation_after_write}
-use Rattle.smt_model.specs.Plain.{Plain, register_after, status_after, output_after, is_going_status}
-use Rattle.smt_model.specs.Plain.{op_at_pc, computes, effect_at, read_register}
-use Rattle.smt_model.specs.{Faults.computed_on, Kinds.first_source, Kinds.second_source}
-use Rattle.smt_laws.proofs.{Registers.Reading.effect-next}
-use Rattle.outcome_laws.specs.Paths.{can_step, stepped, HasItsCode}
-use Rattle.outcome_laws.specs.Tables.{Tables, IsTables, op_at, may_go, goes_anywhere, may_follow, is_conditional}
-use Rattle.outcome_laws.specs.Local.{Use, the_output, reading, accesses, fetches, uses, goes_on_within, fits}
-use Rattle.outcome_laws.specs.Local.{apart_from, is_apart, lacks_reservation, is_local}
-use Rattle.outcome_laws.specs.Local.{FitsOnItsOwn, Commute, LocalStepsCommute}
-use Rattle.outcome_laws.proofs.Holding.{has_next, op_fixed}
-use Rattle.outcome_laws.proofs.Uses.{is_written, effect_on, access_lies, byte_stays, written_is_used, output_is_used}
-use Rattle.outcome_laws.proofs.Uses.{accessed_is_used, Agree, same_effect, same_fetch, flipped, reservation_stays}
-use Rattle.outcome_laws.proofs.Uses.{holds_still, holds_never}
-
--- ---- Small facts of tests
-
-pub first_of_both : (a b : Bool) → (a && b) ≡ true → a ≡ true
-first_of_both true b both = refl
-first_of_both false b both = absurd (grind arith)
-
-pub second_of_both : (a b : Bool) → (a && b) ≡ true → b ≡ true
-second_of_both true b both = both
-second_of_both false b both = absurd (grind arith)
-
-pub both_of : (a b : Bool) → a ≡ true → b ≡ true → (a && b) ≡ true
-both_of a b one two = rw (one, two) refl
-
-pub one_of_two : (a b : Bool) → (a || b) ≡ true → (a ≡ true) ⊎ (b ≡ true)
-one_of_two true b either = inl refl
-one_of_two false b either = inr either
-
-pub or_first : (a b : Bool) → a ≡ true → (a || b) ≡ true
-or_first a b is = rw is refl
-
-pub or_second : (a b : Bool) → b ≡ true → (a || b) ≡ true
-or_second true b is = refl
-or_second false b is = is
-
-pub not_true : (a : Bool) → not a ≡ true → a ≡ false
-not_true true none = absurd (grind arith)
-not_true false none = refl
-
-true_not : (a : Bool) → a ≡ false → not a ≡ true
-true_not a none = rw none refl
-
--- What is true only if something is true that is false, is false.
-pub is_false : (a b : Bool) → (a ≡ true → b ≡ true) → b ≡ false → a ≡ false
-is_false true b leads none = let now : b ≡ true = leads refl in absurd (grind arith)
-is_false false b leads none = refl
-
-pub none_put : (out : Option ℕ) → is_some out ≡ false → out ≡ None
-none_put None none = refl
-none_put (Some byte) none = absurd (grind arith)
-
-pub different : (g h : ℕ) → g ≢ h → (h == g) ≡ false
-different g h other =
-    elim (cases_Bool (h == g)) [
-      | inl same ↦ absurd (other (grind (arith, nat_tests)))
-      | inr apart ↦ apart
-    ]
-
--- ---- Tests of all harts, and of all uses
-
-pub below_all : (p : ℕ → Bool) (n : ℕ) → ((g : ℕ) → g < n → p g ≡ true) → list_all p (below n) ≡ true
-below_all p zero each = refl
-below_all p (suc n) each =
-    list_all-append p (below n) (n ∷ [])
-    ∙ both_of (list_all p (below n)) (list_all p (n ∷ [])) (below_all p n (λ g less. each g (omega arith)))
-    (both_of (p n) true (each n (omega arith)) refl)
-
-pub below_each : (p : ℕ → Bool) (n : ℕ) → list_all p (below n) ≡ true → (g : ℕ) → g < n → p g ≡ true
-below_each p zero all g less = absurd (omega arith)
-below_each p (suc n) all g less =
-    let both : (list_all p (below n) && list_all p (n ∷ [])) ≡ true =
-    sym (list_all-append p (below n) (n ∷ [])) ∙ all in
-    elim (cases_Bool (g == n)) [
-      | inl last ↦
-          let is : n ≡ g = grind (arith, nat_tests) in
-          subst (λ k. p k ≡ true) is
-          (first_of_both (p n) true (second_of_both (list_all p (below n)) (list_all p (n ∷ [])) both))
-      | inr before ↦
-          below_each p n (first_of_both (list_all p (below n)) (list_all p (n ∷ [])) both) g
-          (grind (arith, nat_tests, less, before))
-    ]
-
-pub all_weaker : (p q : Use → Bool) (us : List Use) → ((u : Use) → p u ≡ true → q u ≡ true) → list_all p us ≡ true
-    → list_all q us ≡ true
-all_weaker p q [] weaker all = refl
-all_weaker p q (u ∷ us) weaker all =
-    both_of (q u) (list_all q us) (weaker u (first_of_both (p u) (list_all p us) all))
-    (all_weaker p q us weaker (second_of_both (p u) (list_all p us) all))
+use Rattle.smt_model.specs.Kinds.{touches_memory, writes_register, first_source, second_source}
+use Rattle.smt_model.specs.{Effects.effect_of, Effects.effect_by, Bytes.read, Faults.computed_on}
+use Rattle.smt_model.specs.Reservations.{word_of_address, holds_word}
+use Rattle.smt_model.specs.Plain.{Plain, is_going_status, op_at_pc, computes, effect_at, read_register}
+use Rattle.outcome_laws.specs.Paths.{can_step, stepped}
+use Rattle.outcome_laws.specs.Tables.{Tables, IsTables, IsAsCoded, may_change, is_conditional}
+use Rattle.outcome_laws.specs.Local.{Use, the_output, reading, accesses, fetches, goes_on_within, fits}
+use Rattle.outcome_laws.specs.Local.{apart_from, is_apart, lacks_reservation, is_local, FitsOnItsOwn}
+use Rattle.outcome_laws.proofs.Uses.{is_written, written_is_used, output_is_used, accessed_is_used, same_fetch}
+use Rattle.outcome_laws.proofs.Facts.{first_of_both, second_of_both, one_of_two, not_true, is_false, different}
+use Rattle.outcome_laws.proofs.Facts.{below_each, all_weaker}
+use Rattle.outcome_laws.proofs.Known.{known, local_fits, spared_word, coded_next}
 
 -- ---- What a hart finds behind another's step
 
--- The word at the pc of a hart isn't written to by another's step, if the code may be written at all.
-abbrev pub SparesFetch : Setup → ℕ → ℕ → Plain → Type 0
-SparesFetch setup h g s = code_writable setup.image ≡ true
+-- The word at the pc of a hart isn't written to by another's step, if it may change at all.
+abbrev pub SparesFetch : Setup → Tables → ℕ → ℕ → Plain → Type 0
+SparesFetch setup tables h g s = may_change setup.image tables (s.pcs g) ≡ true
     → is_written (effect_at setup s h).write (word_of_address (s.pcs g)) ≡ false
 
 pub can_still : (setup : Setup) (h g : ℕ) (s : Plain) → (g == h) ≡ false
@@ -122,99 +37,44 @@ can_still setup h g s apart = rw apart refl
 pub pc_still : (setup : Setup) (h g : ℕ) (s : Plain) → (g == h) ≡ false → (stepped setup h s).pcs g ≡ s.pcs g
 pc_still setup h g s apart = rw apart refl
 
-pub spared_byte : (setup : Setup) (h : ℕ) (s : Plain) (a : ℕ)
-    → is_written (effect_at setup s h).write (word_of_address a) ≡ false → (stepped setup h s).bytes a ≡ s.bytes a
-spared_byte setup h s a spared =
-    let op = op_at_pc setup s h in
-    let c = computes setup s h in
-    byte_stays op c (read op s.bytes c.addr) (holds_word (s.reserved h) c.addr) a (s.bytes a) (access_lies setup s h)
-    spared
-
--- In a word that isn't written to each byte stays.
-pub spared_word : (setup : Setup) (h : ℕ) (s : Plain) (word : ℕ) → is_written (effect_at setup s h).write word ≡ false
-    → (a : ℕ) → word_of_address a ≡ word → (stepped setup h s).bytes a ≡ s.bytes a
-spared_word setup h s word spared a is =
-    spared_byte setup h s a (subst (λ w. is_written (effect_at setup s h).write w ≡ false) (sym is) spared)
-
-pub finds_op : (setup : Setup) (h g : ℕ) (s : Plain) → HasItsCode setup s → (g == h) ≡ false → SparesFetch setup h g s
+pub finds_op : (setup : Setup) (tables : Tables) (h g : ℕ) (s : Plain) → IsAsCoded setup tables s
+    → IsAsCoded setup tables (stepped setup h s) → (g == h) ≡ false → SparesFetch setup tables h g s
     → op_at_pc setup (stepped setup h s) g ≡ op_at_pc setup s g
-finds_op setup h g s holds apart spares =
+finds_op setup tables h g s coded after apart spares =
     let sh = stepped setup h s in
     let same = pc_still setup h g s apart in
-    elim (cases_Bool (code_writable setup.image)) [
-      | inl writable ↦
-          ap (λ pc. op_of_word (word_now setup.image sh.bytes pc)) same
-          ∙ ap op_of_word (same_fetch setup.image sh.bytes s.bytes (s.pcs g)
-          (spared_word setup h s (word_of_address (s.pcs g)) (spares writable)))
-      | inr fixed ↦
-          op_fixed setup sh (has_next setup h s holds) fixed g
-          ∙ (ap (op_at setup.image) same ∙ sym (op_fixed setup s holds fixed g))
+    ap (λ pc. op_of_word (word_now setup.image sh.bytes pc)) same
+    ∙ elim (cases_Bool (may_change setup.image tables (s.pcs g))) [
+      | inl changes ↦
+          ap op_of_word (same_fetch setup.image sh.bytes s.bytes (s.pcs g)
+          (spared_word setup h s (word_of_address (s.pcs g)) (spares changes)))
+      | inr stays ↦ ap op_of_word (after (s.pcs g) stays ∙ sym (coded (s.pcs g) stays))
     ]
 
-pub finds : (setup : Setup) (h g : ℕ) (s : Plain) → HasItsCode setup s → (g == h) ≡ false → SparesFetch setup h g s
+pub finds : (setup : Setup) (tables : Tables) (h g : ℕ) (s : Plain) → IsAsCoded setup tables s
+    → IsAsCoded setup tables (stepped setup h s) → (g == h) ≡ false → SparesFetch setup tables h g s
     → computes setup (stepped setup h s) g ≡ computes setup s g
-finds setup h g s holds apart spares =
+finds setup tables h g s coded after apart spares =
     let sh = stepped setup h s in
     ap (λ o. computed_on setup o (sh.pcs g) (read_register sh g (first_source o))
     (read_register sh g (second_source o)))
-    (finds_op setup h g s holds apart spares)
+    (finds_op setup tables h g s coded after apart spares)
     ∙ rw apart refl
 
 -- Whether a step fits, by what is found at a pc.
 abbrev fits_by : ProgramImage → Tables → ℕ → ℕ → Op → Computed → Bool
 fits_by image tables h pc op c =
-    list_all (λ (u : Use). tables.ahead h pc u.what u.writes) (fetches image pc ++ accesses op c)
+    list_all (λ (u : Use). tables.ahead h pc u.what u.writes) (fetches image tables pc ++ accesses op c)
     && goes_on_within image tables op pc c.next
 
-pub fits_still : (setup : Setup) (tables : Tables) (h g : ℕ) (s : Plain) → HasItsCode setup s → (g == h) ≡ false
-    → SparesFetch setup h g s
+pub fits_still : (setup : Setup) (tables : Tables) (h g : ℕ) (s : Plain) → IsAsCoded setup tables s
+    → IsAsCoded setup tables (stepped setup h s) → (g == h) ≡ false → SparesFetch setup tables h g s
     → fits setup tables g (stepped setup h s) ≡ fits setup tables g s
-fits_still setup tables h g s holds apart spares =
+fits_still setup tables h g s coded after apart spares =
     let sh = stepped setup h s in
     ap (λ pc. fits_by setup.image tables g pc (op_at_pc setup sh g) (computes setup sh g)) (pc_still setup h g s apart)
-    ∙ ap₂ (fits_by setup.image tables g (s.pcs g)) (finds_op setup h g s holds apart spares)
-    (finds setup h g s holds apart spares)
-
--- ---- What is known of a step that fits
-
-pub record IsKnown (setup : Setup) (tables : Tables) (h : ℕ) (s : Plain) : Type 0 where
-  pub writes : (word : ℕ) → is_written (effect_at setup s h).write word ≡ true
-      → tables.ahead h (s.pcs h) word true ≡ true
-  pub puts : is_some (effect_at setup s h).out ≡ true → tables.ahead h (s.pcs h) the_output true ≡ true
-  pub touches : is_last (computes setup s h).next ≡ false → touches_memory (kind_of (op_at_pc setup s h)) ≡ true
-      → tables.ahead h (s.pcs h) (word_of_address (computes setup s h).addr) false ≡ true
-  pub fetch : code_writable setup.image ≡ true → tables.ahead h (s.pcs h) (word_of_address (s.pcs h)) false ≡ true
-  pub goes : goes_on_within setup.image tables (op_at_pc setup s h) (s.pcs h) (computes setup s h).next ≡ true
-
-touched : (tables : Tables) (image : ProgramImage) → IsTables image tables → (h pc word : ℕ) (writes : Bool)
-    → tables.ahead h pc word writes ≡ true → tables.ahead h pc word false ≡ true
-touched tables image good h pc word true is = good.ahead.touches h pc word is
-touched tables image good h pc word false is = is
-
-pub known : (setup : Setup) (tables : Tables) → IsTables setup.image tables → (h : ℕ) (s : Plain)
-    → fits setup tables h s ≡ true → IsKnown setup tables h s
-known setup tables good h s is =
-    let op = op_at_pc setup s h in
-    let c = computes setup s h in
-    let now = read op s.bytes c.addr in
-    let held = holds_word (s.reserved h) c.addr in
-    let p = λ (u : Use). tables.ahead h (s.pcs h) u.what u.writes in
-    let goes = goes_on_within setup.image tables op (s.pcs h) c.next in
-    let all : list_all p (uses setup h s) ≡ true = first_of_both (list_all p (uses setup h s)) goes is in
-    let both : (list_all p (fetches setup.image (s.pcs h)) && list_all p (accesses op c)) ≡ true =
-    sym (list_all-append p (fetches setup.image (s.pcs h)) (accesses op c)) ∙ all in
-    let fetched = first_of_both (list_all p (fetches setup.image (s.pcs h))) (list_all p (accesses op c)) both in
-    let accessed = second_of_both (list_all p (fetches setup.image (s.pcs h))) (list_all p (accesses op c)) both in
-    record {
-      writes = λ word written. written_is_used op c now held p word accessed written;
-      puts = λ put. output_is_used op c now held p accessed put;
-      touches = λ going touches.
-          let use_of = accessed_is_used op c p going touches accessed in
-          touched tables setup.image good h (s.pcs h) (word_of_address c.addr) use_of.0 use_of.1;
-      fetch = λ writable.
-          first_of_both (p (reading (word_of_address (s.pcs h)))) true (rw writable at fetched);
-      goes = second_of_both (list_all p (uses setup h s)) goes is;
-    }
+    ∙ ap₂ (fits_by setup.image tables g (s.pcs g)) (finds_op setup tables h g s coded after apart spares)
+    (finds setup tables h g s coded after apart spares)
 
 -- ---- What is known of a local step
 
@@ -269,7 +129,8 @@ pub record IsClear (setup : Setup) (tables : Tables) (g h : ℕ) (s : Plain) : T
   pub touches : is_last (computes setup s g).next ≡ false → touches_memory (kind_of (op_at_pc setup s g)) ≡ true
       → (tables.ahead h (s.pcs h) (word_of_address (computes setup s g).addr) true ≡ false)
       ⊎ (lacks_reservation setup g s ≡ true)
-  pub fetch : code_writable setup.image ≡ true → tables.ahead h (s.pcs h) (word_of_address (s.pcs g)) true ≡ false
+  pub fetch : may_change setup.image tables (s.pcs g) ≡ true
+      → tables.ahead h (s.pcs h) (word_of_address (s.pcs g)) true ≡ false
 
 -- Hart h may not do to what is used here what would be seen.
 abbrev spares : Tables → ℕ → Plain → Use → Bool
@@ -311,17 +172,17 @@ Accesses setup tables g s =
 
 module _ (setup : Setup) (tables : Tables) (good : IsTables setup.image tables) (g h : ℕ) (s : Plain)
     (apart : (h == g) ≡ false) (can : can_step setup h s ≡ true) where
-  clear_fetch : list_all (is_apart setup tables g s) (fetches setup.image (s.pcs g)) ≡ true
-      → code_writable setup.image ≡ true → tables.ahead h (s.pcs h) (word_of_address (s.pcs g)) true ≡ false
-  clear_fetch all writable =
-      let each : list_all (spares tables h s) (fetches setup.image (s.pcs g)) ≡ true =
-      all_weaker (is_apart setup tables g s) (spares tables h s) (fetches setup.image (s.pcs g))
+  clear_fetch : list_all (is_apart setup tables g s) (fetches setup.image tables (s.pcs g)) ≡ true
+      → may_change setup.image tables (s.pcs g) ≡ true → tables.ahead h (s.pcs h) (word_of_address (s.pcs g)) true ≡ false
+  clear_fetch all changes =
+      let each : list_all (spares tables h s) (fetches setup.image tables (s.pcs g)) ≡ true =
+      all_weaker (is_apart setup tables g s) (spares tables h s) (fetches setup.image tables (s.pcs g))
       (apart_spares setup tables g h s apart can) all in
       let u = reading (word_of_address (s.pcs g)) in
       not_true (tables.ahead h (s.pcs h) (word_of_address (s.pcs g)) true)
-      (first_of_both (spares tables h s u) true (rw writable at each))
+      (first_of_both (spares tables h s u) true (rw changes at each))
 
-  clear_apart : list_all (is_apart setup tables g s) (fetches setup.image (s.pcs g)) ≡ true
+  clear_apart : list_all (is_apart setup tables g s) (fetches setup.image tables (s.pcs g)) ≡ true
       → Accesses setup tables g s ≡ true → IsClear setup tables g h s
   clear_apart fetched accessed =
       let op = op_at_pc setup s g in
@@ -344,7 +205,7 @@ module _ (setup : Setup) (tables : Tables) (good : IsTables setup.image tables) 
         fetch = clear_fetch fetched;
       }
 
-  clear_fails : list_all (is_apart setup tables g s) (fetches setup.image (s.pcs g)) ≡ true
+  clear_fails : list_all (is_apart setup tables g s) (fetches setup.image tables (s.pcs g)) ≡ true
       → lacks_reservation setup g s ≡ true → IsClear setup tables g h s
   clear_fails fetched lacks =
       let op = op_at_pc setup s g in
@@ -362,7 +223,7 @@ module _ (setup : Setup) (tables : Tables) (good : IsTables setup.image tables) 
 
   pub clear : is_local setup tables g s ≡ true → IsClear setup tables g h s
   clear local =
-      let fetched = list_all (is_apart setup tables g s) (fetches setup.image (s.pcs g)) in
+      let fetched = list_all (is_apart setup tables g s) (fetches setup.image tables (s.pcs g)) in
       let accessed = Accesses setup tables g s in
       let rest = second_of_both (fits setup tables g s) _ local in
       let first = first_of_both fetched (accessed || lacks_reservation setup g s) rest in
@@ -375,18 +236,20 @@ module _ (setup : Setup) (tables : Tables) (good : IsTables setup.image tables) 
 -- ---- Whether a step fits is its own hart's matter
 
 pub own : (setup : Setup) (tables : Tables) → IsTables setup.image tables → (g h : ℕ) (s : Plain) → (h == g) ≡ false
-    → HasItsCode setup s → can_step setup h s ≡ true → is_local setup tables g s ≡ true
+    → IsAsCoded setup tables s → can_step setup h s ≡ true → is_local setup tables g s ≡ true
     → fits setup tables h (stepped setup g s) ≡ true → fits setup tables h s ≡ true
-own setup tables good g h s apart holds can local after =
+own setup tables good g h s apart coded can local after =
     let sg = stepped setup g s in
     let clears = clear setup tables good g h s apart can local in
     let there = known setup tables good h sg after in
-    let spared : SparesFetch setup g h s = λ writable.
+    let same = pc_still setup g h s apart in
+    let spared : SparesFetch setup tables g h s = λ changes.
     clears.writes (word_of_address (s.pcs h))
-    (subst (λ pc. tables.ahead h pc (word_of_address pc) false ≡ true) (pc_still setup g h s apart)
-    (there.fetch writable)) in
-    sym (fits_still setup tables g h s holds apart spared) ∙ after
+    (subst (λ pc. may_change setup.image tables pc ≡ true
+    → tables.ahead h pc (word_of_address pc) false ≡ true) same there.fetch changes) in
+    let coded_g = coded_next setup tables good g s coded (local_fits setup tables g s local) in
+    sym (fits_still setup tables g h s coded coded_g apart spared) ∙ after
 
 pub fits_on_its_own : FitsOnItsOwn
-fits_on_its_own setup tables good g h s other holds can_g can_h local after =
-    own setup tables good g h s (different g h other) holds can_h local after
+fits_on_its_own setup tables good g h s other coded can_g can_h local after =
+    own setup tables good g h s (different g h other) coded can_h local after

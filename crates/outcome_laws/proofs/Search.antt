@@ -3,12 +3,12 @@ use Rattle.std.specs.Prelude.{◌≡◌, ℕ, Bool, true, ◌||◌, ◌&&◌, na
 use Rattle.std.proofs.Common.{◌∙◌, refl, sym, ap, ap₂, subst}
 use Rattle.smt_model.specs.{Setup.Setup, Plain.Plain, Plain.is_going_status}
 use Rattle.smt_laws.proofs.{Done.some_one}
-use Rattle.outcome_laws.specs.Paths.{can_step, stepped, path, HasItsCode}
-use Rattle.outcome_laws.specs.{Tables.Tables, Tables.IsTables, Local.fits, Local.is_local, Live.AreAlike, Live.matters}
+use Rattle.outcome_laws.specs.Paths.{can_step, stepped, path}
+use Rattle.outcome_laws.specs.{Tables.Tables, Tables.IsTables, Tables.IsAsCoded, Live.AreAlike, Live.matters}
 use Rattle.outcome_laws.specs.Live.{reservation_matters}
 use Rattle.outcome_laws.specs.Search.{IsLocalPath, WhatSettlesIsReached}
-use Rattle.outcome_laws.proofs.{Live.alike_states_step_alike, Local.first_of_both}
-use Rattle.outcome_laws.proofs.Holding.{first_of, has_next, has_path, has_alike}
+use Rattle.outcome_laws.proofs.{Live.alike_states_step_alike, Holding.first_of}
+use Rattle.outcome_laws.proofs.Known.{local_fits, coded_next, coded_local, coded_alike}
 
 -- ---- States that are alike
 
@@ -64,11 +64,6 @@ can_alike setup watched tables s t alike h =
 
 -- ---- Local paths
 
--- A local step fits.
-pub local_fits : (setup : Setup) (tables : Tables) (h : ℕ) (s : Plain) → is_local setup tables h s ≡ true
-    → fits setup tables h s ≡ true
-local_fits setup tables h s local = first_of_both (fits setup tables h s) _ local
-
 -- An order with which an alike state goes the same local way.
 pub record GoesAlike (setup : Setup) (watched : ℕ → Bool) (tables : Tables) (order : List ℕ) (u t : Plain)
     : Type 0 where
@@ -77,18 +72,18 @@ pub record GoesAlike (setup : Setup) (watched : ℕ → Bool) (tables : Tables) 
   pub alike : AreAlike watched tables u there
 
 pub goes_alike : (setup : Setup) (watched : ℕ → Bool) (tables : Tables) → IsTables setup.image tables
-    → (order : List ℕ) (s t u : Plain) → HasItsCode setup s → AreAlike watched tables s t → IsLocalPath setup tables order s u
+    → (order : List ℕ) (s t u : Plain) → IsAsCoded setup tables s → AreAlike watched tables s t → IsLocalPath setup tables order s u
     → GoesAlike setup watched tables order u t
-goes_alike setup watched tables good [] s t u holds alike same = record {
+goes_alike setup watched tables good [] s t u coded alike same = record {
   there = t;
   local = refl;
   alike = subst (λ z. AreAlike watched tables z t) same alike;
 }
-goes_alike setup watched tables good (h ∷ order) s t u holds alike way =
+goes_alike setup watched tables good (h ∷ order) s t u coded alike way =
     let fitting = local_fits setup tables h s way.1 in
-    let one = alike_states_step_alike setup watched tables good s t holds alike h way.0 fitting in
+    let one = alike_states_step_alike setup watched tables good s t coded alike h way.0 fitting in
     let rest = goes_alike setup watched tables good order (stepped setup h s) (stepped setup h t) u
-    (has_next setup h s holds) one.alike way.2 in
+    (coded_next setup tables good h s coded fitting) one.alike way.2 in
     record {
       there = rest.there;
       local = (one.can ∙ way.0, one.local ∙ way.1, rest.local);
@@ -111,19 +106,21 @@ local_leads setup tables [] s u same = ap Some same
 local_leads setup tables (h ∷ order) s u way = rw way.0 (local_leads setup tables order (stepped setup h s) u way.2)
 
 pub what_settles_is_reached : WhatSettlesIsReached
-what_settles_is_reached setup watched tables good from order s t h holds reached can fitting settles =
+what_settles_is_reached setup watched tables good from order s t h reached can fitting settles =
     let z = reached.state in
-    let holds_s = has_alike setup watched tables z s reached.alike (has_path setup order from z holds reached.leads) in
+    let coded_s = coded_alike setup watched tables z s reached.alike reached.coded in
     let back = flip watched tables z s reached.alike in
-    let one = alike_states_step_alike setup watched tables good s z holds_s back h can fitting in
+    let one = alike_states_step_alike setup watched tables good s z coded_s back h can fitting in
     let can_z : can_step setup h z ≡ true = one.can ∙ can in
     let same = goes_alike setup watched tables good settles.order (stepped setup h s) (stepped setup h z) settles.there
-    (has_next setup h s holds_s) one.alike settles.local in
+    (coded_next setup tables good h s coded_s fitting) one.alike settles.local in
     let last : path setup (h ∷ settles.order) z ≡ Some same.there =
     rw can_z (local_leads setup tables settles.order (stepped setup h z) same.there same.local) in
     record {
       state = same.there;
       leads = path_on setup order (h ∷ settles.order) from z reached.leads ∙ last;
+      coded = coded_local setup tables good settles.order (stepped setup h z) same.there
+          (coded_next setup tables good h z reached.coded (one.fits ∙ fitting)) same.local;
       alike = join watched tables same.there settles.there t (flip watched tables settles.there same.there same.alike)
           settles.alike;
     }

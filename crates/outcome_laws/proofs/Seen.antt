@@ -10,8 +10,8 @@ use Rattle.outcome_laws.specs.Tables.{Tables, is_conditional}
 use Rattle.outcome_laws.specs.Local.{Use, accesses, fetches, fits, apart_from, is_apart, lacks_reservation, is_local}
 use Rattle.outcome_laws.specs.Search.{IsLocalPath, EachMemoryIsVisited}
 use Rattle.outcome_laws.proofs.Uses.{is_written, written_is_used}
-use Rattle.outcome_laws.proofs.Local.{first_of_both, second_of_both, all_weaker, is_false, not_true, one_of_two}
-use Rattle.outcome_laws.proofs.Local.{fails_write, unwritten, spared_byte}
+use Rattle.outcome_laws.proofs.Facts.{first_of_both, second_of_both, all_weaker, is_false, not_true, one_of_two}
+use Rattle.outcome_laws.proofs.{Local.fails_write, Local.unwritten, Known.spared_byte}
 use Rattle.outcome_laws.proofs.Settling.{each_settles}
 
 -- What is used is no writing of what is seen.
@@ -25,7 +25,7 @@ hidden setup tables h s word local seen =
     let c = computes setup s h in
     let now = read op s.bytes c.addr in
     let held = holds_word (s.reserved h) c.addr in
-    let fetched = list_all (is_apart setup tables h s) (fetches setup.image (s.pcs h)) in
+    let fetched = list_all (is_apart setup tables h s) (fetches setup.image tables (s.pcs h)) in
     let accessed = list_all (is_apart setup tables h s) (accesses op c) in
     let rest = second_of_both (fits setup tables h s) (fetched && (accessed || lacks_reservation setup h s)) local in
     elim (one_of_two accessed (lacks_reservation setup h s)

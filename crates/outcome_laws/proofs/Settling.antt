@@ -6,14 +6,15 @@ use Rattle.std.proofs.Common.{◌∙◌, refl, sym, ap, subst, inl, inr, arith}
 use Rattle.std.proofs.{lemmas.Bool.cases_Bool, lemmas.Bool.Decides.nat_tests}
 use Rattle.smt_model.specs.{Setup.Setup, Plain.Plain}
 use Rattle.smt_laws.proofs.{Done.some_one}
-use Rattle.outcome_laws.specs.Paths.{can_step, stepped, path, HasItsCode, IsEnd}
-use Rattle.outcome_laws.specs.{Tables.Tables, Tables.IsTables, Local.fits, Local.is_local, Live.AreAlike}
+use Rattle.outcome_laws.specs.Paths.{can_step, stepped, path, IsEnd}
+use Rattle.outcome_laws.specs.{Tables.Tables, Tables.IsTables, Tables.IsAsCoded, Local.fits, Local.is_local}
+use Rattle.outcome_laws.specs.Live.{AreAlike}
 use Rattle.outcome_laws.specs.Search.{IsLocalPath, Settles, Visited, IsWay, HasWay, IsEnough, IsBound, SettlesAt}
 use Rattle.outcome_laws.specs.Search.{EachSettles, HasVisited, EveryEndIsVisited, NoEndIsReached, CanEnd, EachCanEnd}
-use Rattle.outcome_laws.proofs.Holding.{first_of, has_next, has_path, has_local, has_alike}
-use Rattle.outcome_laws.proofs.{Local.can_still, Local.own, Staying.commute, Uses.flipped}
+use Rattle.outcome_laws.proofs.Known.{local_fits, coded_next, coded_local, coded_alike}
+use Rattle.outcome_laws.proofs.{Holding.first_of, Local.can_still, Local.own, Staying.commute, Uses.flipped}
 use Rattle.outcome_laws.proofs.Live.{alike_states_step_alike}
-use Rattle.outcome_laws.proofs.Search.{can_alike, flip, join, self_alike, goes_alike, path_on, local_leads, local_fits}
+use Rattle.outcome_laws.proofs.Search.{can_alike, flip, join, self_alike, goes_alike, path_on, local_leads}
 
 -- ---- A step beside local ones
 
@@ -30,28 +31,28 @@ Beside setup tables h u w =
 
 -- If hart h's step fits where local steps lead, it fits before them; or it is one of them, which fit.
 fits_before : (setup : Setup) (tables : Tables) → IsTables setup.image tables → (h : ℕ) (order : List ℕ) (u w : Plain)
-    → HasItsCode setup u → IsLocalPath setup tables order u w → can_step setup h u ≡ true
+    → IsAsCoded setup tables u → IsLocalPath setup tables order u w → can_step setup h u ≡ true
     → (can_step setup h w ≡ true → fits setup tables h w ≡ true)
     → fits setup tables h u ≡ true
-fits_before setup tables good h [] u w holds same can last =
+fits_before setup tables good h [] u w coded same can last =
     subst (λ z. can_step setup h z ≡ true → fits setup tables h z ≡ true) (sym same) last can
-fits_before setup tables good h (g ∷ order) u w holds way can last =
+fits_before setup tables good h (g ∷ order) u w coded way can last =
     elim (cases_Bool (h == g)) [
       | inl same ↦
           let is : g ≡ h = grind (arith, nat_tests) in
           subst (λ k. fits setup tables k u ≡ true) is (local_fits setup tables g u way.1)
       | inr apart ↦
-          own setup tables good g h u apart holds can way.1
-          (fits_before setup tables good h order (stepped setup g u) w (has_next setup g u holds) way.2
+          own setup tables good g h u apart coded can way.1
+          (fits_before setup tables good h order (stepped setup g u) w (coded_next setup tables good g u coded (local_fits setup tables g u way.1)) way.2
           (can_still setup g h u apart ∙ can) last)
     ]
 
 behind : (setup : Setup) (tables : Tables) → IsTables setup.image tables → (g h : ℕ) (u w there : Plain)
-    → HasItsCode setup u → (h == g) ≡ false → can_step setup g u ≡ true → can_step setup h u ≡ true
+    → IsAsCoded setup tables u → (h == g) ≡ false → can_step setup g u ≡ true → can_step setup h u ≡ true
     → is_local setup tables g u ≡ true → fits setup tables h u ≡ true
     → IsBeside setup tables h (stepped setup g u) w there → IsBeside setup tables h u w there
-behind setup tables good g h u w there holds apart can can_h local fitting rest =
-    let both = commute setup tables good g h u apart holds can_h local fitting in
+behind setup tables good g h u w there coded apart can can_h local fitting rest =
+    let both = commute setup tables good g h u apart coded can_h local fitting in
     record {
       order = g ∷ rest.order;
       local = (
@@ -62,15 +63,15 @@ behind setup tables good g h u w there holds apart can can_h local fitting rest 
     }
 
 beside : (setup : Setup) (tables : Tables) → IsTables setup.image tables → (h : ℕ) (order : List ℕ) (u w : Plain)
-    → HasItsCode setup u → IsLocalPath setup tables order u w → can_step setup h u ≡ true
+    → IsAsCoded setup tables u → IsLocalPath setup tables order u w → can_step setup h u ≡ true
     → (can_step setup h w ≡ true → fits setup tables h w ≡ true)
     → Beside setup tables h u w
-beside setup tables good h [] u w holds same can last =
+beside setup tables good h [] u w coded same can last =
     inr (
       subst (λ z. can_step setup h z ≡ true) same can,
       record { order = []; local = ap (stepped setup h) same },
     )
-beside setup tables good h (g ∷ order) u w holds way can last =
+beside setup tables good h (g ∷ order) u w coded way can last =
     elim (cases_Bool (h == g)) [
       | inl same ↦
           let is : g ≡ h = grind (arith, nat_tests) in
@@ -79,14 +80,14 @@ beside setup tables good h (g ∷ order) u w holds way can last =
             local = subst (λ k. IsLocalPath setup tables order (stepped setup k u) w) is way.2;
           })
       | inr apart ↦
-          let fitting = fits_before setup tables good h (g ∷ order) u w holds way can last in
-          elim (beside setup tables good h order (stepped setup g u) w (has_next setup g u holds) way.2
+          let fitting = fits_before setup tables good h (g ∷ order) u w coded way can last in
+          elim (beside setup tables good h order (stepped setup g u) w (coded_next setup tables good g u coded (local_fits setup tables g u way.1)) way.2
           (can_still setup g h u apart ∙ can) last) [
-            | inl made ↦ inl (behind setup tables good g h u w w holds apart way.0 can way.1 fitting made)
+            | inl made ↦ inl (behind setup tables good g h u w w coded apart way.0 can way.1 fitting made)
             | inr left ↦
                 inr (
                   left.0,
-                  behind setup tables good g h u w (stepped setup h w) holds apart way.0 can way.1 fitting left.1,
+                  behind setup tables good g h u w (stepped setup h w) coded apart way.0 can way.1 fitting left.1,
                 )
           ]
     ]
@@ -114,35 +115,35 @@ module _ (setup : Setup) (watched : ℕ → Bool) (tables : Tables) (good : IsTa
   Bound u = IsBound setup watched tables visited from u
 
   -- What fits at a visited state fits where one is alike to it.
-  fits_there : (h : ℕ) (w a : Plain) → HasItsCode setup w → HasWay visited from a → AreAlike watched tables w a
+  fits_there : (h : ℕ) (w a : Plain) → IsAsCoded setup tables w → HasWay visited from a → AreAlike watched tables w a
       → can_step setup h w ≡ true → fits setup tables h w ≡ true
-  fits_there h w a holds reached alike can =
+  fits_there h w a coded reached alike can =
       let can_a : can_step setup h a ≡ true = sym (can_alike setup watched tables w a alike h) ∙ can in
       let on = enough reached.place h a reached.at can_a in
-      (alike_states_step_alike setup watched tables good a w (has_alike setup watched tables w a alike holds)
+      (alike_states_step_alike setup watched tables good a w (coded_alike setup watched tables w a alike coded)
       (flip watched tables w a alike) h can_a on.fits).fits
       ∙ on.fits
 
   -- So each step fits at a state that settles in a visited one.
-  bound_fits : (u : Plain) → HasItsCode setup u → Bound u → (h : ℕ) → can_step setup h u ≡ true
+  bound_fits : (u : Plain) → IsAsCoded setup tables u → Bound u → (h : ℕ) → can_step setup h u ≡ true
       → fits setup tables h u ≡ true
-  bound_fits u holds bound h can =
+  bound_fits u coded bound h can =
       let way = bound.settles in
-      fits_before setup tables good h way.order u way.there holds way.local can
-      (fits_there h way.there bound.state (has_local setup tables way.order u way.there holds way.local) bound.reached
+      fits_before setup tables good h way.order u way.there coded way.local can
+      (fits_there h way.there bound.state (coded_local setup tables good way.order u way.there coded way.local) bound.reached
       way.alike)
 
   -- A hart's step that isn't among the local ones is made of the visited state too, and settles there.
-  further : (h : ℕ) (u w a : Plain) → HasItsCode setup w → HasWay visited from a → AreAlike watched tables w a
+  further : (h : ℕ) (u w a : Plain) → IsAsCoded setup tables w → HasWay visited from a → AreAlike watched tables w a
       → can_step setup h w ≡ true
       → IsBeside setup tables h u w (stepped setup h w) → Bound (stepped setup h u)
-  further h u w a holds reached alike can left =
-      let one = alike_states_step_alike setup watched tables good w a holds alike h can
-      (fits_there h w a holds reached alike can) in
+  further h u w a coded reached alike can left =
+      let fitting = fits_there h w a coded reached alike can in
+      let one = alike_states_step_alike setup watched tables good w a coded alike h can fitting in
       let on = enough reached.place h a reached.at (one.can ∙ can) in
       let settles = on.settles in
       let same = goes_alike setup watched tables good settles.order (stepped setup h a) (stepped setup h w)
-      settles.there (has_next setup h a (has_alike setup watched tables w a alike holds))
+      settles.there (coded_next setup tables good h a (coded_alike setup watched tables w a alike coded) on.fits)
       (flip watched tables (stepped setup h w) (stepped setup h a) one.alike) settles.local in
       record {
         state = on.state;
@@ -162,37 +163,39 @@ module _ (setup : Setup) (watched : ℕ → Bool) (tables : Tables) (good : IsTa
         };
       }
 
-  next_settles : (h : ℕ) (u : Plain) → HasItsCode setup u → Bound u → can_step setup h u ≡ true
+  next_settles : (h : ℕ) (u : Plain) → IsAsCoded setup tables u → Bound u → can_step setup h u ≡ true
       → Bound (stepped setup h u)
-  next_settles h u holds bound can =
+  next_settles h u coded bound can =
       let way = bound.settles in
-      let holds_there = has_local setup tables way.order u way.there holds way.local in
-      elim (beside setup tables good h way.order u way.there holds way.local can
-      (fits_there h way.there bound.state holds_there bound.reached way.alike)) [
+      let coded_there = coded_local setup tables good way.order u way.there coded way.local in
+      elim (beside setup tables good h way.order u way.there coded way.local can
+      (fits_there h way.there bound.state coded_there bound.reached way.alike)) [
         | inl made ↦ record {
           state = bound.state;
           reached = bound.reached;
           settles = record { order = made.order; there = way.there; local = made.local; alike = way.alike };
         }
-        | inr left ↦ further h u way.there bound.state holds_there bound.reached way.alike left.0 left.1
+        | inr left ↦ further h u way.there bound.state coded_there bound.reached way.alike left.0 left.1
       ]
 
-  settles_on : (order : List ℕ) (s u : Plain) → HasItsCode setup s → Bound s → path setup order s ≡ Some u → Bound u
-  settles_on [] s u holds bound leads = subst Bound (some_one s u leads) bound
-  settles_on (h ∷ order) s u holds bound leads =
+  settles_on : (order : List ℕ) (s u : Plain) → IsAsCoded setup tables s → Bound s → path setup order s ≡ Some u
+      → Bound u × IsAsCoded setup tables u
+  settles_on [] s u coded bound leads =
+      (subst Bound (some_one s u leads) bound, subst (IsAsCoded setup tables) (some_one s u leads) coded)
+  settles_on (h ∷ order) s u coded bound leads =
       let split = first_of (can_step setup h s) (path setup order (stepped setup h s)) u leads in
-      settles_on order (stepped setup h s) u (has_next setup h s holds) (next_settles h s holds bound split.0) split.1
+      settles_on order (stepped setup h s) u
+      (coded_next setup tables good h s coded (bound_fits s coded bound h split.0))
+      (next_settles h s coded bound split.0) split.1
 
 pub each_settles : EachSettles
-each_settles setup watched tables good visited enough from s holds begins order u leads =
-    let bound = settles_on setup watched tables good visited enough from order s u holds (record {
+each_settles setup watched tables good visited enough from s coded begins order u leads =
+    let there = settles_on setup watched tables good visited enough from order s u coded (record {
       state = begins.state;
       reached = record { place = from; way = []; leads = refl; at = begins.at };
       settles = begins.settles;
-    }) leads in (
-      bound,
-      bound_fits setup watched tables good visited enough from u (has_path setup order s u holds leads) bound,
-    )
+    }) leads in
+    (there.0, there.1, bound_fits setup watched tables good visited enough from u there.1 there.0)
 
 -- ---- Every end is visited
 
@@ -206,8 +209,8 @@ stays_there setup tables (h ∷ order) e w end way =
     absurd (grind arith)
 
 pub every_end_is_visited : EveryEndIsVisited
-every_end_is_visited setup watched tables good visited enough from s holds begins order e leads end =
-    let bound = (each_settles setup watched tables good visited enough from s holds begins order e leads).0 in
+every_end_is_visited setup watched tables good visited enough from s coded begins order e leads end =
+    let bound = (each_settles setup watched tables good visited enough from s coded begins order e leads).0 in
     let way = bound.settles in
     record {
       state = bound.state;
@@ -218,8 +221,8 @@ every_end_is_visited setup watched tables good visited enough from s holds begin
 
 -- An end that is alike to a state in which some hart can step is none.
 pub no_end_is_reached : NoEndIsReached
-no_end_is_reached setup watched tables good visited enough from s holds begins none order e leads end =
-    let found = every_end_is_visited setup watched tables good visited enough from s holds begins order e leads end in
+no_end_is_reached setup watched tables good visited enough from s coded begins none order e leads end =
+    let found = every_end_is_visited setup watched tables good visited enough from s coded begins order e leads end in
     let goes = none found.state found.reached in
     let h = goes.0 in
     let can = goes.1 in
@@ -239,40 +242,41 @@ FitsOn setup tables s = (order : List ℕ) (u : Plain) → path setup order s �
     → (h : ℕ) → can_step setup h u ≡ true → fits setup tables h u ≡ true
 
 ends_alike : (setup : Setup) (watched : ℕ → Bool) (tables : Tables) → IsTables setup.image tables
-    → (order : List ℕ) (s t e : Plain) → HasItsCode setup s → FitsOn setup tables s → AreAlike watched tables s t
+    → (order : List ℕ) (s t e : Plain) → IsAsCoded setup tables s → FitsOn setup tables s → AreAlike watched tables s t
     → path setup order s ≡ Some e → IsEnd setup e
     → CanEnd setup t
-ends_alike setup watched tables good [] s t e holds fitting alike leads end = record {
+ends_alike setup watched tables good [] s t e coded fitting alike leads end = record {
   order = [];
   last = t;
   leads = refl;
   is_end = end_alike setup watched tables s t alike (subst (IsEnd setup) (sym (some_one s e leads)) end);
 }
-ends_alike setup watched tables good (h ∷ order) s t e holds fitting alike leads end =
+ends_alike setup watched tables good (h ∷ order) s t e coded fitting alike leads end =
     let split = first_of (can_step setup h s) (path setup order (stepped setup h s)) e leads in
     let can_s = split.0 in
-    let one = alike_states_step_alike setup watched tables good s t holds alike h can_s (fitting [] s refl h can_s) in
+    let fits_s = fitting [] s refl h can_s in
+    let one = alike_states_step_alike setup watched tables good s t coded alike h can_s fits_s in
     let can : can_step setup h t ≡ true = one.can ∙ can_s in
     let rest = ends_alike setup watched tables good order (stepped setup h s) (stepped setup h t) e
-    (has_next setup h s holds) (λ more u on. fitting (h ∷ more) u (rw can_s on)) one.alike split.1 end in
+    (coded_next setup tables good h s coded fits_s) (λ more u on. fitting (h ∷ more) u (rw can_s on)) one.alike split.1 end in
     record { order = h ∷ rest.order; last = rest.last; leads = rw can rest.leads; is_end = rest.is_end }
 
 pub each_can_end : EachCanEnd
-each_can_end setup watched tables good visited enough from s holds begins can order u leads =
-    let there = (each_settles setup watched tables good visited enough from s holds begins order u leads).0 in
+each_can_end setup watched tables good visited enough from s coded begins can order u leads =
+    let settled = each_settles setup watched tables good visited enough from s coded begins order u leads in
+    let there = settled.0 in
     let way = there.settles in
     let a = there.state in
     let ends = can a there.reached in
-    let holds_u = has_path setup order s u holds leads in
-    let holds_there = has_local setup tables way.order u way.there holds_u way.local in
-    let holds_a = has_alike setup watched tables way.there a way.alike holds_there in
+    let coded_there = coded_local setup tables good way.order u way.there settled.1 way.local in
+    let coded_a = coded_alike setup watched tables way.there a way.alike coded_there in
     let fitting : FitsOn setup tables a = λ more z on.
-    (each_settles setup watched tables good visited enough there.reached.place a holds_a (record {
+    (each_settles setup watched tables good visited enough there.reached.place a coded_a (record {
       state = a;
       at = there.reached.at;
       settles = record { order = []; there = a; local = refl; alike = self_alike watched tables a };
-    }) more z on).1 in
-    let rest = ends_alike setup watched tables good ends.order a way.there ends.last holds_a fitting
+    }) more z on).2 in
+    let rest = ends_alike setup watched tables good ends.order a way.there ends.last coded_a fitting
     (flip watched tables way.there a way.alike) ends.leads ends.is_end in
     record {
       order = way.order ++ rest.order;

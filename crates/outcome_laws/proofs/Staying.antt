@@ -10,45 +10,32 @@ use Rattle.smt_model.specs.{Setup.Setup, Exec.Computed, Nexts.is_last, Nexts.pc_
 use Rattle.smt_model.specs.{Basics.below, Kinds.kind_of, Words.Op}
 use Rattle.smt_model.specs.Reservations.{holds_word}
 use Rattle.smt_model.specs.Plain.{Plain, status_after, is_going_status, op_at_pc, computes, effect_at}
-use Rattle.outcome_laws.specs.Paths.{can_step, stepped, HasItsCode}
-use Rattle.outcome_laws.specs.Tables.{Tables, IsTables, op_at, may_go, goes_anywhere, may_follow, is_conditional}
+use Rattle.outcome_laws.specs.Paths.{can_step, stepped}
+use Rattle.outcome_laws.specs.Tables.{Tables, IsTables, IsAsCoded, op_at, may_change, may_go, is_conditional}
 use Rattle.outcome_laws.specs.Local.{Use, accesses, fetches, goes_on_within, fits}
 use Rattle.outcome_laws.specs.Local.{apart_from, is_apart, lacks_reservation, is_local, Commute, LocalStepsCommute}
-use Rattle.outcome_laws.proofs.Holding.{op_fixed}
-use Rattle.outcome_laws.proofs.Local.{first_of_both, second_of_both, both_of, or_first, or_second, is_false}
-use Rattle.outcome_laws.proofs.Local.{not_true, one_of_two, different, below_all, below_each, all_weaker}
+use Rattle.outcome_laws.proofs.Facts.{first_of_both, second_of_both, both_of, either_left, either_right, is_false}
+use Rattle.outcome_laws.proofs.Facts.{not_true, one_of_two, different, below_all, below_each, all_weaker}
+use Rattle.outcome_laws.proofs.{Known.goes_by_image}
 use Rattle.outcome_laws.proofs.Local.{finds_op, finds, fits_still, pc_still}
 use Rattle.outcome_laws.proofs.Commuting as commuting
-
--- ---- Where a step goes on, by the image
-
--- Where the code may be written the targets say it, whatever stands there; else it is the image's.
-pub goes_by_image : (setup : Setup) (tables : Tables) (h : ℕ) (s : Plain) (to : ℕ) → HasItsCode setup s
-    → may_go setup.image tables.targets (op_at_pc setup s h) (s.pcs h) to ≡ true
-    → may_go setup.image tables.targets (op_at setup.image (s.pcs h)) (s.pcs h) to ≡ true
-goes_by_image setup tables h s to holds goes =
-    elim (cases_Bool (code_writable setup.image)) [
-      | inl writable ↦ rw writable (rw writable at goes)
-      | inr fixed ↦
-          subst (λ op. may_go setup.image tables.targets op (s.pcs h) to ≡ true) (op_fixed setup s holds fixed h) goes
-    ]
 
 -- ---- What another hart may do yet
 
 -- A hart that goes on may do no more than it might; one that is over does nothing.
 apart_by : (image : ProgramImage) (tables : Tables) → IsTables image tables → (h pc : ℕ) (op : Op) (status : Status)
     (next : Next) (what : ℕ) (writes : Bool)
-    → ((to : ℕ) → next ≡ Pc to → may_go image tables.targets (op_at image pc) pc to ≡ true)
+    → ((to : ℕ) → next ≡ Pc to → may_go (may_change image tables) tables.targets (op_at image pc) pc to ≡ true)
     → (not (is_going_status status) || not (tables.ahead h pc what writes)) ≡ true
     → (not (is_going_status (status_after next status)) || not (tables.ahead h (pc_after next pc) what writes)) ≡ true
 apart_by image tables good h pc op status (Pc to) what writes goes apart =
     elim (one_of_two (not (is_going_status status)) (not (tables.ahead h pc what writes)) apart) [
-      | inl over ↦ or_first (not (is_going_status status)) (not (tables.ahead h to what writes)) over
+      | inl over ↦ either_left (not (is_going_status status)) (not (tables.ahead h to what writes)) over
       | inr none ↦
           let less : tables.ahead h to what writes ≡ false =
           is_false (tables.ahead h to what writes) (tables.ahead h pc what writes)
           (good.ahead.stays h pc to what writes (goes to refl)) (not_true (tables.ahead h pc what writes) none) in
-          or_second (not (is_going_status status)) (not (tables.ahead h to what writes)) (rw less refl)
+          either_right (not (is_going_status status)) (not (tables.ahead h to what writes)) (rw less refl)
     ]
 apart_by image tables good h pc op status (Ended n) what writes goes apart = refl
 apart_by image tables good h pc op status (Stopped cause) what writes goes apart = refl
@@ -61,19 +48,19 @@ ungroup : (a b c : Bool) → a ≡ false → (b || c) ≡ true → (a || b || c)
 ungroup a b c none rest = rw none rest
 
 module _ (setup : Setup) (tables : Tables) (good : IsTables setup.image tables) (g h : ℕ) (s : Plain)
-    (apart : (h == g) ≡ false) (holds : HasItsCode setup s) (can : can_step setup h s ≡ true)
+    (apart : (h == g) ≡ false) (coded : IsAsCoded setup tables s) (can : can_step setup h s ≡ true)
     (local : is_local setup tables g s ≡ true) (fitting : fits setup tables h s ≡ true) where
   abbrev sh : Plain
   sh = stepped setup h s
 
   goes : (to : ℕ) → (effect_at setup s h).next ≡ Pc to
-      → may_go setup.image tables.targets (op_at setup.image (s.pcs h)) (s.pcs h) to ≡ true
+      → may_go (may_change setup.image tables) tables.targets (op_at setup.image (s.pcs h)) (s.pcs h) to ≡ true
   goes to is =
       let same : (computes setup s h).next ≡ Pc to =
-      sym (commuting.next_h setup tables good g h s apart holds can local fitting) ∙ is in
-      goes_by_image setup tables h s to holds
+      sym (commuting.next_h setup tables good g h s apart coded can local fitting) ∙ is in
+      goes_by_image setup tables h s to coded
       (subst (λ next. goes_on_within setup.image tables (op_at_pc setup s h) (s.pcs h) next ≡ true) same
-      (commuting.knows setup tables good g h s apart holds can local fitting).goes)
+      (commuting.knows setup tables good g h s apart coded can local fitting).goes)
 
   apart_of_h : (u : Use) → apart_from tables g s h u ≡ true → apart_from tables g sh h u ≡ true
   apart_of_h u is =
@@ -106,26 +93,29 @@ module _ (setup : Setup) (tables : Tables) (good : IsTables setup.image tables) 
       (below_each (λ j. apart_from tables g s j u) setup.harts (second_of_both hidden all is) k less)))
 
   abbrev tests : Plain → Bool
-  tests z = list_all (is_apart setup tables g z) (fetches setup.image (z.pcs g))
+  tests z = list_all (is_apart setup tables g z) (fetches setup.image tables (z.pcs g))
 
   abbrev access_tests : Plain → Bool
   access_tests z = list_all (is_apart setup tables g z) (accesses (op_at_pc setup z g) (computes setup z g))
 
   back : (g == h) ≡ false
-  back = commuting.back setup tables good g h s apart holds can local fitting
+  back = commuting.back setup tables good g h s apart coded can local fitting
+
+  after : IsAsCoded setup tables sh
+  after = commuting.coded_h setup tables good g h s apart coded can local fitting
 
   still_fetched : tests s ≡ true → tests sh ≡ true
   still_fetched all =
-      subst (λ pc. list_all (is_apart setup tables g sh) (fetches setup.image pc) ≡ true)
+      subst (λ pc. list_all (is_apart setup tables g sh) (fetches setup.image tables pc) ≡ true)
       (sym (pc_still setup h g s back))
-      (all_weaker (is_apart setup tables g s) (is_apart setup tables g sh) (fetches setup.image (s.pcs g)) still_apart
+      (all_weaker (is_apart setup tables g s) (is_apart setup tables g sh) (fetches setup.image tables (s.pcs g)) still_apart
       all)
 
   same_op : op_at_pc setup sh g ≡ op_at_pc setup s g
-  same_op = finds_op setup h g s holds back (commuting.fetch_of_g setup tables good g h s apart holds can local fitting)
+  same_op = finds_op setup tables h g s coded after back (commuting.fetch_of_g setup tables good g h s apart coded can local fitting)
 
   same_computes : computes setup sh g ≡ computes setup s g
-  same_computes = finds setup h g s holds back (commuting.fetch_of_g setup tables good g h s apart holds can local fitting)
+  same_computes = finds setup tables h g s coded after back (commuting.fetch_of_g setup tables good g h s apart coded can local fitting)
 
   still_accessed : access_tests s ≡ true → access_tests sh ≡ true
   still_accessed all =
@@ -139,7 +129,7 @@ module _ (setup : Setup) (tables : Tables) (good : IsTables setup.image tables) 
       let c = computes setup s g in
       let held = holds_word (s.reserved g) c.addr in
       let is = first_of_both (is_conditional (kind_of op)) (not held) lacks in
-      let none = commuting.never_g setup tables good g h s apart holds can local fitting
+      let none = commuting.never_g setup tables good g h s apart coded can local fitting
       (not_true held (second_of_both (is_conditional (kind_of op)) (not held) lacks)) in
       ap₂ (λ (o : Op) (e : Computed). is_conditional (kind_of o) && not (holds_word (sh.reserved g) e.addr)) same_op
       same_computes
@@ -153,24 +143,24 @@ module _ (setup : Setup) (tables : Tables) (good : IsTables setup.image tables) 
       let fetched = first_of_both (tests s) (access_tests s || lacks_reservation setup g s) rest in
       let either = second_of_both (tests s) (access_tests s || lacks_reservation setup g s) rest in
       both_of (fits setup tables g sh) (tests sh && (access_tests sh || lacks_reservation setup g sh))
-      (fits_still setup tables h g s holds back
-      (commuting.fetch_of_g setup tables good g h s apart holds can local fitting) ∙ fitting_g)
+      (fits_still setup tables h g s coded after back
+      (commuting.fetch_of_g setup tables good g h s apart coded can local fitting) ∙ fitting_g)
       (both_of (tests sh) (access_tests sh || lacks_reservation setup g sh) (still_fetched fetched)
       (elim (one_of_two (access_tests s) (lacks_reservation setup g s) either) [
-        | inl all ↦ or_first (access_tests sh) (lacks_reservation setup g sh) (still_accessed all)
-        | inr lacks ↦ or_second (access_tests sh) (lacks_reservation setup g sh) (still_lacks lacks)
+        | inl all ↦ either_left (access_tests sh) (lacks_reservation setup g sh) (still_accessed all)
+        | inr lacks ↦ either_right (access_tests sh) (lacks_reservation setup g sh) (still_lacks lacks)
       ]))
 
 -- ---- The law
 
 pub commute : (setup : Setup) (tables : Tables) → IsTables setup.image tables → (g h : ℕ) (s : Plain)
-    → (h == g) ≡ false → HasItsCode setup s → can_step setup h s ≡ true → is_local setup tables g s ≡ true
+    → (h == g) ≡ false → IsAsCoded setup tables s → can_step setup h s ≡ true → is_local setup tables g s ≡ true
     → fits setup tables h s ≡ true → Commute setup tables g h s
-commute setup tables good g h s apart holds can local fitting = record {
-  same = commuting.commutes setup tables good g h s apart holds can local fitting;
-  local = local_still setup tables good g h s apart holds can local fitting;
+commute setup tables good g h s apart coded can local fitting = record {
+  same = commuting.commutes setup tables good g h s apart coded can local fitting;
+  local = local_still setup tables good g h s apart coded can local fitting;
 }
 
 pub local_steps_commute : LocalStepsCommute
-local_steps_commute setup tables good g h s other holds can_g can_h local fitting =
-    commute setup tables good g h s (different g h other) holds can_h local fitting
+local_steps_commute setup tables good g h s other coded can_g can_h local fitting =
+    commute setup tables good g h s (different g h other) coded can_h local fitting

@@ -338,6 +338,20 @@ same_effect op c bytes1 bytes2 held1 held2 lies agree =
 
 -- ---- A fetch
 
+-- Where memories agree on the word at a pc, they have the same instruction there.
+pub same_code : (image : ProgramImage) (bytes1 bytes2 : ℕ → ℕ) (pc : ℕ)
+    → ((a : ℕ) → word_of_address a ≡ pc → bytes1 a ≡ bytes2 a)
+    → word_now image bytes1 pc ≡ word_now image bytes2 pc
+unfolding word_now
+same_code image bytes1 bytes2 pc same =
+    elim (cases_Bool (has_code_word image pc)) [
+      | inl there ↦
+          let even : pc % 4 ≡ 0 = grind (arith, nat_tests) in
+          word_now-at image bytes1 bytes2 pc (same pc (omega arith)) (same (pc + 1) (omega arith))
+          (same (pc + 2) (omega arith)) (same (pc + 3) (omega arith))
+      | inr none ↦ rw none refl
+    ]
+
 pub same_fetch : (image : ProgramImage) (bytes1 bytes2 : ℕ → ℕ) (pc : ℕ)
     → ((a : ℕ) → word_of_address a ≡ word_of_address pc → bytes1 a ≡ bytes2 a)
     → word_now image bytes1 pc ≡ word_now image bytes2 pc
@@ -345,9 +359,8 @@ unfolding word_now
 same_fetch image bytes1 bytes2 pc same =
     elim (cases_Bool (has_code_word image pc)) [
       | inl there ↦
-          let even : pc % 4 ≡ 0 = grind (arith, nat_tests) in
-          word_now-at image bytes1 bytes2 pc (same pc refl) (same (pc + 1) (omega arith)) (same (pc + 2) (omega arith))
-          (same (pc + 3) (omega arith))
+          let even : word_of_address pc ≡ pc = grind (arith, nat_tests) in
+          same_code image bytes1 bytes2 pc (λ a is. same a (is ∙ sym even))
       | inr none ↦ rw none refl
     ]
 

@@ -3,8 +3,8 @@
 use Rattle.std.specs.Prelude.{◌≡◌, ◌≢◌, ℕ, Bool, true, ◌&&◌, ◌||◌}
 use Rattle.smt_model.specs.{Setup.Setup}
 use Rattle.smt_model.specs.Plain.{Plain, is_going_status}
-use Rattle.outcome_laws.specs.Paths.{can_step, stepped, HasItsCode}
-use Rattle.outcome_laws.specs.{Tables.Tables, Tables.IsTables, Local.fits, Local.is_local}
+use Rattle.outcome_laws.specs.Paths.{can_step, stepped}
+use Rattle.outcome_laws.specs.{Tables.Tables, Tables.IsTables, Tables.IsAsCoded, Local.fits, Local.is_local}
 
 -- What a register of a hart holds still matters: it is watched, or the hart goes and may read it.
 abbrev pub matters : (ℕ → Bool) → (ℕ → ℕ → Bool) → Plain → ℕ → ℕ → Bool
@@ -35,6 +35,6 @@ pub record StepAlike (setup : Setup) (watched : ℕ → Bool) (tables : Tables) 
 -- So it is of a step that fits: of another one the tables don't know where it goes on.
 abbrev pub AlikeStatesStepAlike : Type 0
 AlikeStatesStepAlike = (setup : Setup) (watched : ℕ → Bool) (tables : Tables) → IsTables setup.image tables
-    → (s t : Plain) → HasItsCode setup s → AreAlike watched tables s t → (h : ℕ) → can_step setup h s ≡ true
+    → (s t : Plain) → IsAsCoded setup tables s → AreAlike watched tables s t → (h : ℕ) → can_step setup h s ≡ true
     → fits setup tables h s ≡ true
     → StepAlike setup watched tables h s t

@@ -11,8 +11,9 @@ use Rattle.smt_model.specs.{Words.ProgramImage, Words.code_writable}
 use Rattle.smt_model.specs.Kinds.{Kind, Computing, Loading, Storing, Reserving, Conditional, Atomic, kind_of}
 use Rattle.smt_model.specs.Kinds.{touches_memory}
 use Rattle.smt_model.specs.Plain.{Plain, op_at_pc, computes, is_going_status}
-use Rattle.outcome_laws.specs.Paths.{can_step, stepped, HasItsCode}
-use Rattle.outcome_laws.specs.Tables.{Tables, IsTables, IsLiveTable, may_go, is_conditional, with_live_alone}
+use Rattle.outcome_laws.specs.Paths.{can_step, stepped}
+use Rattle.outcome_laws.specs.Tables.{Tables, IsTables, IsLiveTable, IsAsCoded, may_go, may_change, is_conditional}
+use Rattle.outcome_laws.specs.Tables.{with_live_alone}
 
 -- ---- What an instruction uses
 
@@ -45,25 +46,26 @@ accesses_by Atomic c = writing (word_of_address c.addr) ∷ []
 abbrev pub accesses : Op → Computed → List Use
 accesses op c = if is_last c.next then [] else accesses_by (kind_of op) c
 
--- What its fetch uses: the word at its pc, where the code may be written.
-abbrev pub fetches : ProgramImage → ℕ → List Use
-fetches image pc = if code_writable image then reading (word_of_address pc) ∷ [] else []
+-- What its fetch uses: the word at its pc, where the code may change.
+abbrev pub fetches : ProgramImage → Tables → ℕ → List Use
+fetches image tables pc = if may_change image tables pc then reading (word_of_address pc) ∷ [] else []
 
 -- All that the next step of hart h uses.
-abbrev pub uses : Setup → ℕ → Plain → List Use
-uses setup h s = fetches setup.image (s.pcs h) ++ accesses (op_at_pc setup s h) (computes setup s h)
+abbrev pub uses : Setup → Tables → ℕ → Plain → List Use
+uses setup tables h s =
+    fetches setup.image tables (s.pcs h) ++ accesses (op_at_pc setup s h) (computes setup s h)
 
 -- ---- A step that the tables know
 
 -- A step of an instruction at `pc` goes on only where it may; if it is the last it goes nowhere.
 abbrev pub goes_on_within : ProgramImage → Tables → Op → ℕ → Next → Bool
-goes_on_within image tables op pc (Pc to) = may_go image tables.targets op pc to
+goes_on_within image tables op pc (Pc to) = may_go (may_change image tables) tables.targets op pc to
 goes_on_within image tables op pc next = true
 
 -- The next step of hart h fits the tables: they say that it may use what it uses, and go on where it does.
 abbrev pub fits : Setup → Tables → ℕ → Plain → Bool
 fits setup tables h s =
-    list_all (λ (u : Use). tables.ahead h (s.pcs h) u.what u.writes) (uses setup h s)
+    list_all (λ (u : Use). tables.ahead h (s.pcs h) u.what u.writes) (uses setup tables h s)
     && goes_on_within setup.image tables (op_at_pc setup s h) (s.pcs h) (computes setup s h).next
 
 -- ---- A step that no other hart sees, and that sees none
@@ -90,7 +92,7 @@ lacks_reservation setup h s =
 abbrev pub is_local : Setup → Tables → ℕ → Plain → Bool
 is_local setup tables h s =
     fits setup tables h s
-    && (list_all (is_apart setup tables h s) (fetches setup.image (s.pcs h))
+    && (list_all (is_apart setup tables h s) (fetches setup.image tables (s.pcs h))
     && (list_all (is_apart setup tables h s) (accesses (op_at_pc setup s h) (computes setup s h))
     || lacks_reservation setup h s))
 
@@ -100,7 +102,7 @@ is_local setup tables h s =
 -- before it.
 abbrev pub FitsOnItsOwn : Type 0
 FitsOnItsOwn = (setup : Setup) (tables : Tables) → IsTables setup.image tables
-    → (g h : ℕ) (s : Plain) → g ≢ h → HasItsCode setup s
+    → (g h : ℕ) (s : Plain) → g ≢ h → IsAsCoded setup tables s
     → can_step setup g s ≡ true → can_step setup h s ≡ true
     → is_local setup tables g s ≡ true → fits setup tables h (stepped setup g s) ≡ true
     → fits setup tables h s ≡ true
@@ -114,7 +116,7 @@ pub record Commute (setup : Setup) (tables : Tables) (g h : ℕ) (s : Plain) : T
 -- A local step and any step that fits of another hart do.
 abbrev pub LocalStepsCommute : Type 0
 LocalStepsCommute = (setup : Setup) (tables : Tables) → IsTables setup.image tables
-    → (g h : ℕ) (s : Plain) → g ≢ h → HasItsCode setup s
+    → (g h : ℕ) (s : Plain) → g ≢ h → IsAsCoded setup tables s
     → can_step setup g s ≡ true → can_step setup h s ≡ true
     → is_local setup tables g s ≡ true → fits setup tables h s ≡ true
     → Commute setup tables g h s
@@ -124,9 +126,10 @@ LocalStepsCommute = (setup : Setup) (tables : Tables) → IsTables setup.image t
 abbrev pub is_silent : Op → Computed → Bool
 is_silent op c = is_last c.next || (not (touches_memory (kind_of op)) && not (is_some c.out))
 
--- Where the code may not be written, such a step is local in any tables that it fits.
+-- Where the code may not change, such a step is local in any tables that it fits.
 abbrev pub SilentStepsAreLocal : Type 0
-SilentStepsAreLocal = (setup : Setup) (tables : Tables) (h : ℕ) (s : Plain) → code_writable setup.image ≡ false
+SilentStepsAreLocal = (setup : Setup) (tables : Tables) (h : ℕ) (s : Plain)
+    → may_change setup.image tables (s.pcs h) ≡ false
     → is_silent (op_at_pc setup s h) (computes setup s h) ≡ true
     → fits setup tables h s ≡ true → is_local setup tables h s ≡ true
 
@@ -137,4 +140,4 @@ pub record AllFits (setup : Setup) (live : ℕ → ℕ → Bool) : Type 0 where
 
 abbrev pub LiveAloneFits : Type 0
 LiveAloneFits = (setup : Setup) (live : ℕ → ℕ → Bool)
-    → IsLiveTable setup.image (with_live_alone live).targets live → AllFits setup live
+    → IsLiveTable setup.image (λ pc. code_writable setup.image) (λ pc to. true) live → AllFits setup live

@@ -4,8 +4,9 @@
 -- nothing is asked of cycles. [Godefroid 1996; Clarke, Grumberg and Peled 1999, "Model Checking", chapter 10]
 use Rattle.std.specs.Prelude.{◌≡◌, ℕ, Bool, true, List, [], ◌∷◌, ◌++◌, Option, Some}
 use Rattle.smt_model.specs.{Setup.Setup, Plain.Plain, Reservations.word_of_address}
-use Rattle.outcome_laws.specs.Paths.{can_step, stepped, path, IsEnd, HasItsCode}
-use Rattle.outcome_laws.specs.{Tables.Tables, Tables.IsTables, Local.fits, Local.is_local, Live.AreAlike}
+use Rattle.outcome_laws.specs.Paths.{can_step, stepped, path, IsEnd}
+use Rattle.outcome_laws.specs.{Tables.Tables, Tables.IsTables, Tables.IsAsCoded, Local.fits}
+use Rattle.outcome_laws.specs.{Local.is_local, Live.AreAlike}
 
 -- The steps of an order lead from s to t, and each is local.
 abbrev pub IsLocalPath : Setup → Tables → List ℕ → Plain → Plain → Type 0
@@ -68,7 +69,7 @@ abbrev pub InEachSearch
 InEachSearch P = (setup : Setup) (watched : ℕ → Bool) (tables : Tables)
     → IsTables setup.image tables
     → (visited : Visited) → IsEnough setup watched tables visited
-    → (from : ℕ) (s : Plain) → HasItsCode setup s → SettlesAt setup watched tables visited from s
+    → (from : ℕ) (s : Plain) → IsAsCoded setup tables s → SettlesAt setup watched tables visited from s
     → P setup watched tables visited from s
 
 -- A state settles in one to which a way leads.
@@ -78,12 +79,13 @@ pub record IsBound (setup : Setup) (watched : ℕ → Bool) (tables : Tables) (v
   pub reached : HasWay visited from state
   pub settles : Settles setup watched tables u state
 
--- Whatever order leads to a state, it settles in one that was visited, and each step from it fits: so the
--- tables hold wherever an order leads, though the search has looked at its own steps alone.
+-- Whatever order leads to a state, it settles in one that was visited, code that may not change is there what
+-- the image has, and each step from it fits: so the tables hold wherever an order leads, though the search has
+-- looked at its own steps alone.
 abbrev pub EachSettles : Type 0
 EachSettles = InEachSearch (λ setup watched tables visited from s.
     (order : List ℕ) (u : Plain) → path setup order s ≡ Some u
-    → IsBound setup watched tables visited from u
+    → IsBound setup watched tables visited from u × IsAsCoded setup tables u
     × ((h : ℕ) → can_step setup h u ≡ true → fits setup tables h u ≡ true))
 
 -- A visited state to which a way leads, and that is alike to this one.
@@ -109,11 +111,13 @@ NoEndIsReached = InEachSearch (λ setup watched tables visited from s.
     NoneIsEnd setup visited from
     → (order : List ℕ) (e : Plain) → path setup order s ≡ Some e → IsEnd setup e → ⊥)
 
--- An order leads from one state to a state that is alike to another.
+-- An order leads from one state to a state that is alike to another, and whose code has changed only where it
+-- may.
 pub record IsReached (setup : Setup) (watched : ℕ → Bool) (tables : Tables) (from : Plain)
     (order : List ℕ) (t : Plain) : Type 0 where
   pub state : Plain
   pub leads : path setup order from ≡ Some state
+  pub coded : IsAsCoded setup tables state
   pub alike : AreAlike watched tables state t
 
 -- What the search goes on to is reached where it goes on from a state that is.
@@ -121,7 +125,7 @@ abbrev pub WhatSettlesIsReached : Type 0
 WhatSettlesIsReached = (setup : Setup) (watched : ℕ → Bool) (tables : Tables)
     → IsTables setup.image tables
     → (from : Plain) (order : List ℕ) (s t : Plain) (h : ℕ)
-    → HasItsCode setup from → IsReached setup watched tables from order s
+    → IsReached setup watched tables from order s
     → can_step setup h s ≡ true → fits setup tables h s ≡ true
     → (settles : Settles setup watched tables (stepped setup h s) t)
     → IsReached setup watched tables from (order ++ h ∷ settles.order) t

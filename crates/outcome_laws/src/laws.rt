@@ -1,6 +1,7 @@
 //! The functions do nothing: each is there for its contract, which ranges over all setups and all
 //! states of the plain machine, and over all tables that are good.
 ghost use Rattle.outcome_laws.specs.Paths.{PathsKeepCode, RunsArePaths};
+ghost use Rattle.outcome_laws.specs.Tables.{StartsAsCoded, HoldsAsCoded};
 ghost use Rattle.outcome_laws.specs.Local.{FitsOnItsOwn, LocalStepsCommute, LiveAloneFits, SilentStepsAreLocal};
 ghost use Rattle.outcome_laws.specs.Live.{AlikeStatesStepAlike};
 ghost use Rattle.outcome_laws.specs.Search.{EachSettles, EachMemoryIsVisited, EveryEndIsVisited};
@@ -13,6 +14,13 @@ pub fn runs_are_paths()
     ensures code { PathsKeepCode }
 {}
 
+/// Code that may not change by the tables is at the start what the image has, and so it is wherever code
+/// that may not be written is, if the tables say that every other word may be.
+pub fn code_is_as_coded()
+    ensures starts { StartsAsCoded }
+    ensures holds { HoldsAsCoded }
+{}
+
 /// Whether a step fits the tables is its own hart's matter; and a local step and any step that fits of
 /// another hart come to the same in both orders, and stay so.
 pub fn local_steps_commute()
@@ -21,7 +29,7 @@ pub fn local_steps_commute()
 {}
 
 /// Every step fits the tables that know nothing but which registers are live; and where the code may not
-/// be written, a step that fits, and neither touches memory nor puts a byte out, is local.
+/// change, a step that fits, and neither touches memory nor puts a byte out, is local.
 pub fn live_registers_are_tables()
     ensures fits { LiveAloneFits }
     ensures silent { SilentStepsAreLocal }
