@@ -39,6 +39,11 @@ not_true false none = refl
 true_not : (a : Bool) → a ≡ false → not a ≡ true
 true_not a none = rw none refl
 
+pub neither : (a b : Bool) → (not a && not b) ≡ true → (a ≡ false) × (b ≡ false)
+neither true b is = absurd (grind arith)
+neither false true is = absurd (grind arith)
+neither false false is = (refl, refl)
+
 -- What is true only if something is true that is false, is false.
 pub is_false : (a b : Bool) → (a ≡ true → b ≡ true) → b ≡ false → a ≡ false
 is_false true b leads none = let now : b ≡ true = leads refl in absurd (grind arith)

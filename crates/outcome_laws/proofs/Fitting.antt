@@ -1,4 +1,4 @@
--- Every step fits tables that know nothing but which registers are live; and a step that uses nothing is local.
+-- Every step fits tables that allow all; and a step that uses nothing is local.
 use Rattle.std.specs.Prelude.{◌≡◌, ℕ, ◌%◌, Bool, true, false, not, ◌==◌, ◌&&◌, ◌||◌, if◌then◌else◌, List, [], ◌∷◌, ◌++◌}
 use Rattle.std.specs.Prelude.{Option, Some, None, option_map, unwrap_or, is_some}
 use Rattle.std.specs.List.{list_all}
@@ -19,10 +19,10 @@ use Rattle.smt_model.specs.Kinds.{Kind, Computing, Loading, Storing, Reserving, 
 use Rattle.smt_model.specs.Kinds.{first_source, second_source, touches_memory}
 use Rattle.smt_model.specs.Plain.{Plain, read_register, op_at_pc, computes}
 use Rattle.outcome_laws.specs.Tables.{may_follow, may_follow_of, may_go, goes_anywhere, may_change}
-use Rattle.outcome_laws.specs.Tables.{with_live_alone}
+use Rattle.outcome_laws.specs.Tables.{Tables, AllowsAll, LiveAloneIsTables}
 use Rattle.outcome_laws.specs.Local.{Use, accesses, accesses_by, fetches, uses, goes_on_within, fits, is_apart}
-use Rattle.outcome_laws.specs.Local.{lacks_reservation, is_local, is_silent, SilentStepsAreLocal, AllFits, LiveAloneFits}
-use Rattle.outcome_laws.proofs.Facts.{both_of, none_put, either_left, either_right}
+use Rattle.outcome_laws.specs.Local.{lacks_reservation, is_local, is_silent, SilentStepsAreLocal, EveryStepFits}
+use Rattle.outcome_laws.proofs.Facts.{both_of, one_of_two, neither, none_put, either_left, either_right}
 
 -- ---- Where an instruction goes on
 
@@ -125,36 +125,37 @@ follows setup s h to is =
 
 -- ---- Every step fits
 
-always : (us : List Use) → list_all (λ (u : Use). true) us ≡ true
-always [] = refl
-always (u ∷ us) = always us
+always : (test : Use → Bool) (us : List Use) → ((u : Use) → test u ≡ true) → list_all test us ≡ true
+always test [] each = refl
+always test (u ∷ us) each = both_of (test u) (list_all test us) (each u) (always test us each)
 
-anywhere : (changes : ℕ → Bool) (op : Op) (pc to : ℕ) → may_follow op pc to ≡ true
-    → may_go changes (λ from there. true) op pc to ≡ true
-anywhere changes op pc to follows =
+anywhere : (changes : ℕ → Bool) (targets : ℕ → ℕ → Bool) (op : Op) (pc to : ℕ) → targets pc to ≡ true
+    → may_follow op pc to ≡ true → may_go changes targets op pc to ≡ true
+anywhere changes targets op pc to allowed follows =
     elim (cases_Bool (changes pc || goes_anywhere op)) [
-      | inl any ↦ rw any refl
+      | inl any ↦ rw any allowed
       | inr known ↦ rw known follows
     ]
 
-within : (image : ProgramImage) (live : ℕ → ℕ → Bool) (op : Op) (pc : ℕ) (next : Next)
+within : (image : ProgramImage) (tables : Tables) → AllowsAll tables → (op : Op) (pc : ℕ) (next : Next)
     → ((to : ℕ) → next ≡ Pc to → may_follow op pc to ≡ true)
-    → goes_on_within image (with_live_alone live) op pc next ≡ true
-within image live op pc (Pc to) follows = anywhere (may_change image (with_live_alone live)) op pc to (follows to refl)
-within image live op pc (Ended n) follows = refl
-within image live op pc (Stopped cause) follows = refl
+    → goes_on_within image tables op pc next ≡ true
+within image tables allows op pc (Pc to) follows =
+    anywhere (may_change image tables) tables.targets op pc to (allows.targets pc to) (follows to refl)
+within image tables allows op pc (Ended n) follows = refl
+within image tables allows op pc (Stopped cause) follows = refl
 
-every_fits : (setup : Setup) (live : ℕ → ℕ → Bool) (h : ℕ) (s : Plain)
-    → fits setup (with_live_alone live) h s ≡ true
-every_fits setup live h s =
-    both_of (list_all (λ (u : Use). true) (uses setup (with_live_alone live) h s))
-    (goes_on_within setup.image (with_live_alone live) (op_at_pc setup s h) (s.pcs h) (computes setup s h).next)
-    (always (uses setup (with_live_alone live) h s))
-    (within setup.image live (op_at_pc setup s h) (s.pcs h) (computes setup s h).next (follows setup s h))
+pub every_step_fits : EveryStepFits
+every_step_fits setup tables allows h s =
+    let may = λ (u : Use). tables.ahead h (s.pcs h) u.what u.writes in
+    both_of (list_all may (uses setup tables h s))
+    (goes_on_within setup.image tables (op_at_pc setup s h) (s.pcs h) (computes setup s h).next)
+    (always may (uses setup tables h s) (λ u. allows.ahead h (s.pcs h) u.what u.writes))
+    (within setup.image tables allows (op_at_pc setup s h) (s.pcs h) (computes setup s h).next (follows setup s h))
 
-pub live_alone_fits : LiveAloneFits
-live_alone_fits setup live good = record {
-  tables = record {
+pub live_alone_is_tables : LiveAloneIsTables
+live_alone_is_tables image live good = record {
+  tables_are = record {
     live = good;
     kept = record {
       used = λ pc is. refl;
@@ -167,7 +168,7 @@ live_alone_fits setup live good = record {
     };
     rewritten = λ h pc word ahead. refl;
   };
-  fits = every_fits setup live;
+  allows = record { targets = λ pc to. refl; ahead = λ h pc what writes. refl };
 }
 
 -- ---- A step that uses nothing
@@ -180,26 +181,34 @@ unused Reserving c touches none = absurd (grind arith)
 unused Conditional c touches none = absurd (grind arith)
 unused Atomic c touches none = absurd (grind arith)
 
-calm : (touches puts : Bool) → (not touches && not puts) ≡ true → (touches ≡ false) × (puts ≡ false)
-calm true puts is = absurd (grind arith)
-calm false true is = absurd (grind arith)
-calm false false is = (refl, refl)
-
 silent_uses : (op : Op) (c : Computed) → is_silent op c ≡ true → accesses op c ≡ []
 silent_uses op c silent =
     elim (cases_Bool (is_last c.next)) [
       | inl last ↦ rw last refl
       | inr going ↦
-          let both = calm (touches_memory (kind_of op)) (is_some c.out) (rw going at silent) in
+          let both = neither (touches_memory (kind_of op)) (is_some c.out) (rw going at silent) in
           rw going (unused (kind_of op) c both.0 (none_put c.out both.1))
     ]
 
+silent_or_lacks : (setup : Setup) (tables : Tables) (h : ℕ) (s : Plain)
+    → (is_silent (op_at_pc setup s h) (computes setup s h) || lacks_reservation setup h s) ≡ true
+    → (list_all (is_apart setup tables h s) (accesses (op_at_pc setup s h) (computes setup s h))
+    || lacks_reservation setup h s) ≡ true
+silent_or_lacks setup tables h s is =
+    let op = op_at_pc setup s h in
+    let c = computes setup s h in
+    let accessed = list_all (is_apart setup tables h s) (accesses op c) in
+    elim (one_of_two (is_silent op c) (lacks_reservation setup h s) is) [
+      | inl silent ↦
+          either_left accessed (lacks_reservation setup h s)
+          (ap (list_all (is_apart setup tables h s)) (silent_uses op c silent))
+      | inr lacks ↦ either_right accessed (lacks_reservation setup h s) lacks
+    ]
+
 pub silent_steps_are_local : SilentStepsAreLocal
-silent_steps_are_local setup tables h s stays silent fitting =
-    let none = silent_uses (op_at_pc setup s h) (computes setup s h) silent in
-    let fetched : list_all (is_apart setup tables h s) (fetches setup.image tables (s.pcs h)) ≡ true = rw stays refl in
-    let accessed : list_all (is_apart setup tables h s) (accesses (op_at_pc setup s h) (computes setup s h)) ≡ true =
-    ap (list_all (is_apart setup tables h s)) none in
+silent_steps_are_local setup tables h s stays is fitting =
+    let fetched : list_all (is_apart setup tables h s) (fetches setup.image tables (s.pcs h)) ≡ true =
+    rw stays refl in
     both_of (fits setup tables h s) _ fitting
     (both_of (list_all (is_apart setup tables h s) (fetches setup.image tables (s.pcs h))) _ fetched
-    (ap (λ first. first || lacks_reservation setup h s) accessed))
+    (silent_or_lacks setup tables h s is))

@@ -2,6 +2,7 @@ pub mod Paths
 pub mod Holding
 pub mod Uses
 pub mod Facts
+pub mod Silent
 pub mod Known
 pub mod Local
 pub mod Commuting

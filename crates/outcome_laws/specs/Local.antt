@@ -12,8 +12,7 @@ use Rattle.smt_model.specs.Kinds.{Kind, Computing, Loading, Storing, Reserving, 
 use Rattle.smt_model.specs.Kinds.{touches_memory}
 use Rattle.smt_model.specs.Plain.{Plain, op_at_pc, computes, is_going_status}
 use Rattle.outcome_laws.specs.Paths.{can_step, stepped}
-use Rattle.outcome_laws.specs.Tables.{Tables, IsTables, IsLiveTable, IsAsCoded, may_go, may_change, is_conditional}
-use Rattle.outcome_laws.specs.Tables.{with_live_alone}
+use Rattle.outcome_laws.specs.Tables.{Tables, IsTables, AllowsAll, IsAsCoded, may_go, may_change, is_conditional}
 
 -- ---- What an instruction uses
 
@@ -126,18 +125,15 @@ LocalStepsCommute = (setup : Setup) (tables : Tables) → IsTables setup.image t
 abbrev pub is_silent : Op → Computed → Bool
 is_silent op c = is_last c.next || (not (touches_memory (kind_of op)) && not (is_some c.out))
 
--- Where the code may not change, such a step is local in any tables that it fits.
+-- Where the code may not change, such a step, and SC without a reservation, is local in any tables that it
+-- fits, whatever the other harts may do.
 abbrev pub SilentStepsAreLocal : Type 0
 SilentStepsAreLocal = (setup : Setup) (tables : Tables) (h : ℕ) (s : Plain)
     → may_change setup.image tables (s.pcs h) ≡ false
-    → is_silent (op_at_pc setup s h) (computes setup s h) ≡ true
+    → (is_silent (op_at_pc setup s h) (computes setup s h) || lacks_reservation setup h s) ≡ true
     → fits setup tables h s ≡ true → is_local setup tables h s ≡ true
 
--- Tables that know nothing but which registers are live are good if that is, and every step fits them.
-pub record AllFits (setup : Setup) (live : ℕ → ℕ → Bool) : Type 0 where
-  pub tables : IsTables setup.image (with_live_alone live)
-  pub fits : (h : ℕ) (s : Plain) → fits setup (with_live_alone live) h s ≡ true
-
-abbrev pub LiveAloneFits : Type 0
-LiveAloneFits = (setup : Setup) (live : ℕ → ℕ → Bool)
-    → IsLiveTable setup.image (λ pc. code_writable setup.image) (λ pc to. true) live → AllFits setup live
+-- Every step fits tables that allow all.
+abbrev pub EveryStepFits : Type 0
+EveryStepFits = (setup : Setup) (tables : Tables) → AllowsAll tables → (h : ℕ) (s : Plain)
+    → fits setup tables h s ≡ true

@@ -110,8 +110,13 @@ pub record IsTables (image : ProgramImage) (tables : Tables) : Type 0 where
   pub ahead : IsAheadTable image (may_change image tables) tables.targets tables.ahead
   pub rewritten : (h pc word : ℕ) → tables.ahead h pc word true ≡ true → tables.rewritten word ≡ true
 
--- The tables that know nothing but which registers are live: JALR goes anywhere, each hart may touch
--- anything, each reservation matters, and each word is looked at.
+-- A search with such tables leaves no step out: JALR may go anywhere, and each hart may touch anything.
+pub record AllowsAll (tables : Tables) : Type 0 where
+  pub targets : (pc to : ℕ) → tables.targets pc to ≡ true
+  pub ahead : (h pc what : ℕ) (writes : Bool) → tables.ahead h pc what writes ≡ true
+
+-- Tables that know nothing but which registers are live: they allow all, each reservation matters, and each
+-- word is looked at.
 abbrev pub with_live_alone : (ℕ → ℕ → Bool) → Tables
 with_live_alone live = record {
   live = live;
@@ -121,6 +126,15 @@ with_live_alone live = record {
   rewritten = λ word. true;
   seen = λ word. true;
 }
+
+-- They are good if the table of live registers is.
+pub record IsAllowing (image : ProgramImage) (tables : Tables) : Type 0 where
+  pub tables_are : IsTables image tables
+  pub allows : AllowsAll tables
+
+abbrev pub LiveAloneIsTables : Type 0
+LiveAloneIsTables = (image : ProgramImage) (live : ℕ → ℕ → Bool)
+    → IsLiveTable image (λ pc. code_writable image) (λ pc to. true) live → IsAllowing image (with_live_alone live)
 
 -- ---- Code that doesn't change
 

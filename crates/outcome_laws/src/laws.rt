@@ -1,8 +1,8 @@
 //! The functions do nothing: each is there for its contract, which ranges over all setups and all
 //! states of the plain machine, and over all tables that are good.
 ghost use Rattle.outcome_laws.specs.Paths.{PathsKeepCode, RunsArePaths};
-ghost use Rattle.outcome_laws.specs.Tables.{StartsAsCoded, HoldsAsCoded};
-ghost use Rattle.outcome_laws.specs.Local.{FitsOnItsOwn, LocalStepsCommute, LiveAloneFits, SilentStepsAreLocal};
+ghost use Rattle.outcome_laws.specs.Tables.{StartsAsCoded, HoldsAsCoded, LiveAloneIsTables};
+ghost use Rattle.outcome_laws.specs.Local.{FitsOnItsOwn, LocalStepsCommute, EveryStepFits, SilentStepsAreLocal};
 ghost use Rattle.outcome_laws.specs.Live.{AlikeStatesStepAlike};
 ghost use Rattle.outcome_laws.specs.Search.{EachSettles, EachMemoryIsVisited, EveryEndIsVisited};
 ghost use Rattle.outcome_laws.specs.Search.{WhatSettlesIsReached, NoEndIsReached, EachCanEnd};
@@ -28,10 +28,12 @@ pub fn local_steps_commute()
     ensures commute { LocalStepsCommute }
 {}
 
-/// Every step fits the tables that know nothing but which registers are live; and where the code may not
-/// change, a step that fits, and neither touches memory nor puts a byte out, is local.
-pub fn live_registers_are_tables()
-    ensures fits { LiveAloneFits }
+/// Tables that know nothing but which registers are live are good if that is, and allow all; every step
+/// fits tables that allow all; and where the code may not change, a step that fits is local if it neither
+/// touches memory nor puts a byte out, or is a store-conditional without a reservation.
+pub fn steps_fit_what_allows_all()
+    ensures tables { LiveAloneIsTables }
+    ensures fits { EveryStepFits }
     ensures silent { SilentStepsAreLocal }
 {}
 
