@@ -1,21 +1,17 @@
 -- A local step and any step that fits of another hart come to the same in both orders.
-use Rattle.std.specs.Prelude.{◌≡◌, ◌≢◌, ◌⊎◌, ℕ, ◌<◌, Bool, true, false, not, ◌==◌, ◌&&◌, ◌||◌, if◌then◌else◌}
-use Rattle.std.specs.Prelude.{List, [], ◌∷◌, ◌++◌, Option, Some, None, is_some}
-use Rattle.std.specs.List.{list_all}
-use Rattle.std.proofs.Common.{◌∙◌, refl, sym, ap, ap₂, subst, inl, inr, arith}
+use Rattle.std.specs.Prelude.{◌≡◌, ℕ, Bool, true, false, not, ◌==◌, ◌&&◌, if◌then◌else◌}
+use Rattle.std.specs.Prelude.{List, Option, Some, None, is_some}
+use Rattle.std.proofs.Common.{◌∙◌, refl, sym, ap, ap₂, inl, inr, arith}
 use Rattle.std.proofs.{lemmas.Bool.cases_Bool, lemmas.Bool.Decides.nat_tests, Math.Path.fun_ext}
-use Rattle.elf_image.specs.Image.{ProgramImage, code_writable}
 use Rattle.rv_instr.specs.declared.op.Op.{Op}
-use Rattle.events.specs.{declared.effect.Effect.Effect, declared.effect.Next.Next, declared.effect.Written.Written}
-use Rattle.events.specs.declared.effect.Next.TheVariants.{Pc, Ended, Stopped}
+use Rattle.events.specs.{declared.effect.Effect.Effect, declared.effect.Written.Written}
 use Rattle.smt_model.specs.{Setup.Setup, Exec.Computed, Nexts.is_last, Nexts.pc_after, declared.config.Status.Status}
-use Rattle.smt_model.specs.{Basics.below}
 use Rattle.smt_model.specs.Kinds.{Kind, Computing, Loading, Storing, Reserving, Conditional, Atomic, kind_of}
 use Rattle.smt_model.specs.Kinds.{touches_memory, destination}
-use Rattle.smt_model.specs.{Effects.effect_of, Bytes.read, Bytes.byte_after}
+use Rattle.smt_model.specs.{Bytes.read, Bytes.byte_after}
 use Rattle.smt_model.specs.Reservations.{word_of_address, holds_word, own_reservation, reservation_after}
 use Rattle.smt_model.specs.Reservations.{reservation_after_write}
-use Rattle.smt_model.specs.Plain.{Plain, register_after, status_after, output_after, is_going_status}
+use Rattle.smt_model.specs.Plain.{Plain, register_after, status_after, output_after}
 use Rattle.smt_model.specs.Plain.{op_at_pc, computes, effect_at}
 use Rattle.smt_laws.proofs.{Registers.Reading.effect-next}
 use Rattle.outcome_laws.specs.Paths.{can_step, stepped}

@@ -1,10 +1,9 @@
 -- Every step fits tables that allow all; and a step that uses nothing is local.
-use Rattle.std.specs.Prelude.{◌≡◌, ℕ, ◌%◌, Bool, true, false, not, ◌==◌, ◌&&◌, ◌||◌, if◌then◌else◌, List, [], ◌∷◌, ◌++◌}
+use Rattle.std.specs.Prelude.{◌≡◌, ℕ, ◌%◌, Bool, true, false, ◌==◌, ◌||◌, if◌then◌else◌, List, [], ◌∷◌}
 use Rattle.std.specs.Prelude.{Option, Some, None, option_map, unwrap_or, is_some}
 use Rattle.std.specs.List.{list_all}
-use Rattle.std.proofs.Common.{◌∙◌, refl, sym, ap, ap₂, inl, inr, arith}
+use Rattle.std.proofs.Common.{◌∙◌, refl, sym, ap, inl, inr, arith}
 use Rattle.std.proofs.{lemmas.Bool.cases_Bool, lemmas.Bool.Decides.nat_tests}
-use Rattle.elf_image.specs.Image.{code_writable}
 use Rattle.rv_word.specs.Word.{sum_of}
 use Rattle.rv_instr.specs.{declared.op.Op.Op, declared.op.Op.TheVariants.Known, declared.op.Op.TheVariants.Illegal}
 use Rattle.rv_instr.specs.{declared.op.Op.TheVariants.NoWord, declared.instr.Instr.Instr}
@@ -21,7 +20,7 @@ use Rattle.smt_model.specs.Plain.{Plain, read_register, op_at_pc, computes}
 use Rattle.outcome_laws.specs.Tables.{may_follow, may_follow_of, may_go, goes_anywhere, may_change}
 use Rattle.outcome_laws.specs.Tables.{Tables, AllowsAll, LiveAloneIsTables}
 use Rattle.outcome_laws.specs.Local.{Use, accesses, accesses_by, fetches, uses, goes_on_within, fits, is_apart}
-use Rattle.outcome_laws.specs.Local.{lacks_reservation, is_local, is_silent, SilentStepsAreLocal, EveryStepFits}
+use Rattle.outcome_laws.specs.Local.{lacks_reservation, is_silent, SilentStepsAreLocal, EveryStepFits}
 use Rattle.outcome_laws.proofs.Facts.{both_of, one_of_two, neither, none_put, either_left, either_right}
 
 -- ---- Where an instruction goes on

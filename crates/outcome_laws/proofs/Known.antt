@@ -1,10 +1,10 @@
 -- What is known of a step that fits; and code that may not change is what the image has behind it.
-use Rattle.std.specs.Prelude.{◌≡◌, ℕ, ◌%◌, Bool, true, false, ◌==◌, ◌&&◌, List, [], ◌∷◌, ◌++◌, is_some}
+use Rattle.std.specs.Prelude.{◌≡◌, ℕ, Bool, true, false, ◌&&◌, List, [], ◌∷◌, is_some}
 use Rattle.std.specs.List.{list_all}
 use Rattle.std.proofs.Common.{◌∙◌, refl, sym, ap, subst, inl, inr, arith}
-use Rattle.std.proofs.{lemmas.Bool.cases_Bool, lemmas.Bool.Decides.nat_tests}
+use Rattle.std.proofs.{lemmas.Bool.cases_Bool}
 use Rattle.std.proofs.lemmas.List.Folds.{list_all-append}
-use Rattle.elf_image.specs.Image.{ProgramImage, code_writable, word_now, code_word}
+use Rattle.elf_image.specs.Image.{ProgramImage, code_writable}
 use Rattle.elf_image.proofs.Words.{word_now-same}
 use Rattle.smt_model.specs.{Setup.Setup, Nexts.is_last, Words.op_of_word, Bytes.read}
 use Rattle.smt_model.specs.Kinds.{kind_of, touches_memory}

@@ -1,6 +1,6 @@
 -- Alike states make alike steps.
 use Rattle.std.specs.Prelude.{◌≡◌, ◌≢◌, ℕ, Bool, true, false, not, ◌==◌, ◌&&◌, ◌||◌, nat_lt, if◌then◌else◌}
-use Rattle.std.specs.Prelude.{List, ◌++◌, Option, Some, None}
+use Rattle.std.specs.Prelude.{◌++◌, Option}
 use Rattle.std.specs.List.{list_all}
 use Rattle.std.proofs.Common.{◌∙◌, refl, sym, ap, ap₂, subst, inl, inr, arith}
 use Rattle.std.proofs.{lemmas.Bool.cases_Bool, lemmas.Bool.Decides.nat_tests, Math.Path.fun_ext}
@@ -14,7 +14,7 @@ use Rattle.smt_model.specs.{Setup.Setup, Nexts.is_last, Nexts.pc_after, declared
 use Rattle.smt_model.specs.{Exec.Computed, Faults.computed_on, Words.op_of_word, Basics.below}
 use Rattle.smt_model.specs.Kinds.{Kind, Computing, Loading, Storing, Reserving, Conditional, Atomic, kind_of}
 use Rattle.smt_model.specs.Kinds.{destination, first_source, second_source, writes_register}
-use Rattle.smt_model.specs.{Effects.effect_of, Bytes.read, Bytes.byte_after, Reservations.holds_word}
+use Rattle.smt_model.specs.{Bytes.read, Bytes.byte_after, Reservations.holds_word}
 use Rattle.smt_model.specs.{Reservations.reservation_after, Reservations.own_reservation, Plain.output_after}
 use Rattle.smt_model.specs.{Reservations.reservation_after_write}
 use Rattle.smt_model.specs.Plain.{Plain, is_going_status, register_after, status_after, read_register}

@@ -1,14 +1,14 @@
 -- What a hart finds behind another's step; what a local step leaves alone; and whether a step fits is its own
 -- hart's matter.
-use Rattle.std.specs.Prelude.{◌≡◌, ◌≢◌, ◌⊎◌, ℕ, ◌<◌, Bool, true, false, not, ◌==◌, ◌&&◌, ◌||◌, if◌then◌else◌}
-use Rattle.std.specs.Prelude.{nat_lt, List, [], ◌∷◌, ◌++◌, Option, Some, None, is_some}
+use Rattle.std.specs.Prelude.{◌≡◌, ◌⊎◌, ℕ, ◌<◌, Bool, true, false, not, ◌==◌, ◌&&◌, ◌||◌}
+use Rattle.std.specs.Prelude.{nat_lt, ◌++◌, Option, None, is_some}
 use Rattle.std.specs.List.{list_all}
 use Rattle.std.proofs.Common.{◌∙◌, refl, sym, ap, ap₂, subst, inl, inr, arith}
 use Rattle.std.proofs.{lemmas.Bool.cases_Bool, lemmas.Bool.Decides.nat_tests}
 use Rattle.elf_image.specs.Image.{ProgramImage, word_now}
 use Rattle.rv_instr.specs.declared.op.Op.{Op}
 use Rattle.events.specs.{declared.effect.Written.Written}
-use Rattle.smt_model.specs.{Setup.Setup, Exec.Computed, Nexts.is_last, Words.op_of_word, Basics.below}
+use Rattle.smt_model.specs.{Setup.Setup, Exec.Computed, Nexts.is_last, Words.op_of_word}
 use Rattle.smt_model.specs.Kinds.{Kind, Computing, Loading, Storing, Reserving, Conditional, Atomic, kind_of}
 use Rattle.smt_model.specs.Kinds.{touches_memory, writes_register, first_source, second_source}
 use Rattle.smt_model.specs.{Effects.effect_of, Effects.effect_by, Bytes.read, Faults.computed_on}

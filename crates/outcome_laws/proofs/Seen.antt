@@ -1,11 +1,11 @@
 -- What memory shows all the way is shown by what was visited: local steps write nothing that is seen.
-use Rattle.std.specs.Prelude.{◌≡◌, ℕ, Bool, true, false, not, ◌&&◌, ◌||◌, List, [], ◌∷◌, None}
+use Rattle.std.specs.Prelude.{◌≡◌, ℕ, Bool, true, false, not, ◌&&◌, ◌||◌, List, [], ◌∷◌}
 use Rattle.std.specs.List.{list_all}
-use Rattle.std.proofs.Common.{◌∙◌, refl, sym, ap, inl, inr, arith}
+use Rattle.std.proofs.Common.{◌∙◌, refl, sym, ap, inl, inr}
 use Rattle.smt_model.specs.{Setup.Setup, Plain.Plain, Basics.below, Kinds.kind_of, Bytes.read}
 use Rattle.smt_model.specs.Reservations.{word_of_address, holds_word}
 use Rattle.smt_model.specs.Plain.{op_at_pc, computes, effect_at}
-use Rattle.outcome_laws.specs.Paths.{can_step, stepped}
+use Rattle.outcome_laws.specs.Paths.{stepped}
 use Rattle.outcome_laws.specs.Tables.{Tables, is_conditional}
 use Rattle.outcome_laws.specs.Local.{Use, accesses, fetches, fits, apart_from, is_apart, lacks_reservation, is_local}
 use Rattle.outcome_laws.specs.Search.{IsLocalPath, EachMemoryIsVisited}

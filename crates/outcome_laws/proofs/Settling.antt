@@ -1,7 +1,6 @@
 -- Every state to which an order leads settles in one that was visited, and each step from it fits; so what
 -- is visited tells every end, and what can end.
-use Rattle.std.specs.Prelude.{◌≡◌, ◌⊎◌, ℕ, Bool, true, false, not, ◌==◌, ◌&&◌, List, [], ◌∷◌, ◌++◌, Some}
-use Rattle.std.specs.List.{list_all}
+use Rattle.std.specs.Prelude.{◌≡◌, ◌⊎◌, ℕ, Bool, true, false, ◌==◌, List, [], ◌∷◌, ◌++◌, Some}
 use Rattle.std.proofs.Common.{◌∙◌, refl, sym, ap, subst, inl, inr, arith}
 use Rattle.std.proofs.{lemmas.Bool.cases_Bool, lemmas.Bool.Decides.nat_tests}
 use Rattle.smt_model.specs.{Setup.Setup, Plain.Plain}
@@ -9,8 +8,8 @@ use Rattle.smt_laws.proofs.{Done.some_one}
 use Rattle.outcome_laws.specs.Paths.{can_step, stepped, path, IsEnd}
 use Rattle.outcome_laws.specs.{Tables.Tables, Tables.IsTables, Tables.IsAsCoded, Local.fits, Local.is_local}
 use Rattle.outcome_laws.specs.Live.{AreAlike}
-use Rattle.outcome_laws.specs.Search.{IsLocalPath, Settles, Visited, IsWay, HasWay, IsEnough, IsBound, SettlesAt}
-use Rattle.outcome_laws.specs.Search.{EachSettles, HasVisited, EveryEndIsVisited, NoEndIsReached, CanEnd, EachCanEnd}
+use Rattle.outcome_laws.specs.Search.{IsLocalPath, Visited, IsWay, HasWay, IsEnough, IsBound}
+use Rattle.outcome_laws.specs.Search.{EachSettles, EveryEndIsVisited, NoEndIsReached, CanEnd, EachCanEnd}
 use Rattle.outcome_laws.proofs.Known.{local_fits, coded_next, coded_local, coded_alike}
 use Rattle.outcome_laws.proofs.{Holding.first_of, Local.can_still, Local.own, Staying.commute, Uses.flipped}
 use Rattle.outcome_laws.proofs.Live.{alike_states_step_alike}

@@ -1,5 +1,5 @@
 -- What an instruction says that neither touches memory nor puts a byte out, or ends its hart.
-use Rattle.std.specs.Prelude.{◌≡◌, ℕ, Bool, true, false, not, ◌&&◌, ◌||◌, if◌then◌else◌, Option, Some, None, is_some}
+use Rattle.std.specs.Prelude.{◌≡◌, ℕ, Bool, true, false, if◌then◌else◌, Option, None, is_some}
 use Rattle.std.proofs.Common.{refl, inl, inr, arith}
 use Rattle.std.proofs.{lemmas.Bool.cases_Bool}
 use Rattle.rv_instr.specs.declared.op.Op.{Op}

@@ -1,12 +1,12 @@
 -- A local step is still local behind a step that fits of another hart.
-use Rattle.std.specs.Prelude.{◌≡◌, ◌≢◌, ℕ, ◌<◌, Bool, true, false, not, ◌==◌, ◌&&◌, ◌||◌, if◌then◌else◌, nat_lt, List, Option}
+use Rattle.std.specs.Prelude.{◌≡◌, ℕ, Bool, true, false, not, ◌==◌, ◌&&◌, ◌||◌}
 use Rattle.std.specs.List.{list_all}
-use Rattle.std.proofs.Common.{◌∙◌, refl, sym, ap, ap₂, subst, inl, inr, arith}
+use Rattle.std.proofs.Common.{◌∙◌, refl, sym, ap₂, subst, inl, inr, arith}
 use Rattle.std.proofs.{lemmas.Bool.cases_Bool, lemmas.Bool.Decides.nat_tests}
-use Rattle.elf_image.specs.Image.{ProgramImage, code_writable}
+use Rattle.elf_image.specs.Image.{ProgramImage}
 use Rattle.events.specs.{declared.effect.Next.Next}
 use Rattle.events.specs.declared.effect.Next.TheVariants.{Pc, Ended, Stopped}
-use Rattle.smt_model.specs.{Setup.Setup, Exec.Computed, Nexts.is_last, Nexts.pc_after, declared.config.Status.Status}
+use Rattle.smt_model.specs.{Setup.Setup, Exec.Computed, Nexts.pc_after, declared.config.Status.Status}
 use Rattle.smt_model.specs.{Basics.below, Kinds.kind_of, Words.Op}
 use Rattle.smt_model.specs.Reservations.{holds_word}
 use Rattle.smt_model.specs.Plain.{Plain, status_after, is_going_status, op_at_pc, computes, effect_at}

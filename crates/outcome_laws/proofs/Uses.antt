@@ -1,6 +1,6 @@
 -- What a step changes and depends on is what it uses: it writes no word beside, and reads none.
-use Rattle.std.specs.Prelude.{◌≡◌, ◌⊎◌, ℕ, zero, suc, ◌+◌, ◌-◌, ◌*◌, ◌%◌, ◌^◌, ◌≤◌, ◌<◌, Bool, true, false, not, ◌==◌, ◌&&◌}
-use Rattle.std.specs.Prelude.{◌||◌, nat_le, nat_lt, if◌then◌else◌, List, [], ◌∷◌, Option, Some, None, is_some, IfSome}
+use Rattle.std.specs.Prelude.{◌≡◌, ◌⊎◌, ℕ, zero, suc, ◌+◌, ◌*◌, ◌%◌, ◌^◌, ◌≤◌, ◌<◌, Bool, true, false, not, ◌==◌, ◌&&◌}
+use Rattle.std.specs.Prelude.{nat_le, nat_lt, if◌then◌else◌, [], ◌∷◌, Option, Some, None, is_some, IfSome}
 use Rattle.std.specs.Prelude.{option_map, unwrap_or}
 use Rattle.std.specs.List.{list_all}
 use Rattle.std.proofs.Common.{◌∙◌, refl, sym, ap, ap₂, subst, inl, inr, arith}
@@ -16,9 +16,9 @@ use Rattle.rv_instr.specs.declared.instr.LoadOp.TheVariants.{Lb, Lh, Lw, Lbu, Lh
 use Rattle.events.specs.{declared.effect.Effect.Effect, declared.effect.Written.Written, declared.effect.Next.Next}
 use Rattle.events.specs.{declared.effect.Next.TheVariants.Stopped}
 use Rattle.smt_model.specs.{Setup.Setup, Exec.Computed, Exec.exec, Nexts.is_last, Effects.effect_by, Effects.effect_of}
-use Rattle.smt_model.specs.Bytes.{read, number_at, byte_after, written_byte, read_value}
+use Rattle.smt_model.specs.Bytes.{read, number_at, byte_after, read_value}
 use Rattle.smt_model.specs.Reservations.{word_of_address, holds_word, reservation_after, reservation_after_write}
-use Rattle.smt_model.specs.Faults.{fault, fault_of, read_fault, write_fault, checked}
+use Rattle.smt_model.specs.Faults.{fault, fault_of, checked}
 use Rattle.smt_model.specs.Kinds.{Kind, Computing, Loading, Storing, Reserving, Conditional, Atomic, kind_of}
 use Rattle.smt_model.specs.Kinds.{access_size, is_loading, is_storing, touches_memory, writes_register, load_size}
 use Rattle.smt_model.specs.Kinds.{store_size, first_source, second_source}

@@ -7,7 +7,7 @@ use Rattle.std.specs.Prelude.{List, [], ◌∷◌, ◌++◌, is_some}
 use Rattle.std.specs.List.{list_all}
 use Rattle.smt_model.specs.{Setup.Setup, Exec.Computed, Basics.below, Reservations.word_of_address}
 use Rattle.smt_model.specs.{Reservations.holds_word, Nexts.is_last, Words.Op, Words.Next, Words.Pc}
-use Rattle.smt_model.specs.{Words.ProgramImage, Words.code_writable}
+use Rattle.smt_model.specs.{Words.ProgramImage}
 use Rattle.smt_model.specs.Kinds.{Kind, Computing, Loading, Storing, Reserving, Conditional, Atomic, kind_of}
 use Rattle.smt_model.specs.Kinds.{touches_memory}
 use Rattle.smt_model.specs.Plain.{Plain, op_at_pc, computes, is_going_status}
