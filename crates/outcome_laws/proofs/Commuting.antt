@@ -17,7 +17,8 @@ use Rattle.smt_laws.proofs.{Registers.Reading.effect-next}
 use Rattle.outcome_laws.specs.Paths.{can_step, stepped}
 use Rattle.outcome_laws.specs.Tables.{Tables, IsTables, IsAsCoded, is_conditional}
 use Rattle.outcome_laws.specs.Local.{the_output, fits, lacks_reservation, is_local}
-use Rattle.outcome_laws.proofs.Uses.{is_written, effect_on, access_lies, byte_stays, same_effect, flipped}
+use Rattle.outcome_laws.proofs.Uses.{is_written, effect_on, byte_stays, same_effect, flipped}
+use Rattle.outcome_laws.proofs.Words.{access_lies}
 use Rattle.outcome_laws.proofs.Uses.{reservation_stays, holds_still, holds_never}
 use Rattle.outcome_laws.proofs.Facts.{first_of_both, second_of_both, is_false, not_true}
 use Rattle.outcome_laws.proofs.Known.{IsKnown, known, local_fits, spared_word, coded_next}

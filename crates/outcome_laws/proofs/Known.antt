@@ -15,7 +15,8 @@ use Rattle.outcome_laws.specs.Paths.{stepped}
 use Rattle.outcome_laws.specs.Tables.{Tables, IsTables, op_at, may_change, may_go, IsAsCoded, StartsAsCoded, HoldsAsCoded}
 use Rattle.outcome_laws.specs.Local.{Use, the_output, reading, accesses, fetches, uses, goes_on_within, fits, is_local}
 use Rattle.outcome_laws.specs.{Live.AreAlike, Search.IsLocalPath}
-use Rattle.outcome_laws.proofs.Uses.{is_written, access_lies, byte_stays, written_is_used, output_is_used}
+use Rattle.outcome_laws.proofs.Uses.{is_written, byte_stays, written_is_used, output_is_used}
+use Rattle.outcome_laws.proofs.Words.{access_lies}
 use Rattle.outcome_laws.proofs.Uses.{accessed_is_used, same_code}
 use Rattle.outcome_laws.proofs.Facts.{first_of_both, second_of_both, is_false}
 

@@ -1,5 +1,6 @@
 pub mod Paths
 pub mod Holding
+pub mod Words
 pub mod Uses
 pub mod Facts
 pub mod Silent
@@ -8,6 +9,7 @@ pub mod Local
 pub mod Commuting
 pub mod Staying
 pub mod Fitting
+pub mod Afterwards
 pub mod Live
 pub mod Search
 pub mod Settling

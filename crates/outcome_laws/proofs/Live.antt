@@ -29,31 +29,10 @@ use Rattle.outcome_laws.specs.Local.{lacks_reservation, is_local}
 use Rattle.outcome_laws.specs.Live.{matters, reservation_matters, AreAlike, StepAlike, AlikeStatesStepAlike}
 use Rattle.outcome_laws.proofs.Facts.{first_of_both, second_of_both, either_left, either_right}
 use Rattle.outcome_laws.proofs.Known.{known, op_as_coded, goes_by_image}
-use Rattle.outcome_laws.proofs.Uses.{access_lies, same_effect, effect_on}
-
--- ---- Small facts of tests
-
-apart_or : (a b : Bool) → (a || b) ≡ true → a ≡ false → b ≡ true
-apart_or true b either none = absurd (grind arith)
-apart_or false b either none = either
-
-only_watched : (a b c : Bool) → b ≡ false → (a || (b && c)) ≡ true → a ≡ true
-only_watched true b c none either = refl
-only_watched false true c none either = absurd (grind arith)
-only_watched false false c none either = either
-
-last_stands : (next : Next) (before : Status) → is_last next ≡ true
-    → is_going_status (status_after next before) ≡ false
-last_stands (Pc to) before last = absurd (grind arith)
-last_stands (Ended n) before last = refl
-last_stands (Stopped cause) before last = refl
-
-destined : (r d : ℕ) → r ≢ 0 → (r == d) ≡ true → not (d == 0) ≡ true
-destined r d some is = grind (arith, nat_tests)
-
-abbrev register_by : ℕ → Op → Effect → (ℕ → ℕ → ℕ) → ℕ → ℕ → ℕ
-register_by h op x registers g r =
-    if (g == h) && (r == destination op) then register_after x.value (registers g r) else registers g r
+use Rattle.outcome_laws.proofs.Uses.{same_effect, effect_on}
+use Rattle.outcome_laws.proofs.Words.{access_lies}
+use Rattle.outcome_laws.proofs.Afterwards.{apart_or, only_watched, last_stands, destined, register_by, goes_to}
+use Rattle.outcome_laws.proofs.Afterwards.{own_replaced, lacks_by}
 
 -- ---- What alike states find
 
@@ -190,14 +169,6 @@ module _ (setup : Setup) (watched : ℕ → Bool) (tables : Tables) (good : IsTa
       ap (λ (test : ℕ → Bool). not (u.writes && tables.seen u.what) && list_all test (below setup.harts))
       (fun_ext (same_other h u)))
 
-  lacks_by : (kind : Kind) (addr : ℕ) (held held2 : Option ℕ) → (is_conditional kind ≡ true → held ≡ held2)
-      → (is_conditional kind && not (holds_word held addr)) ≡ (is_conditional kind && not (holds_word held2 addr))
-  lacks_by kind addr held held2 same =
-      elim (cases_Bool (is_conditional kind)) [
-        | inl is ↦ ap (λ r. is_conditional kind && not (holds_word r addr)) (same is)
-        | inr other ↦ rw other refl
-      ]
-
   same_lacks : (h : ℕ) → is_going_status (s.statuses h) ≡ true
       → lacks_reservation setup h t ≡ lacks_reservation setup h s
   same_lacks h going =
@@ -224,16 +195,6 @@ module _ (setup : Setup) (watched : ℕ → Bool) (tables : Tables) (good : IsTa
       (ap₂ (λ a b. a && b) (same_fetched h) (ap₂ (λ a b. a || b) (same_accessed h going) (same_lacks h going)))
 
   -- ---- Registers afterwards
-
-  -- A hart that goes on goes on somewhere.
-  record GoesTo (next : Next) : Type 0 where
-    to : ℕ
-    is_so : next ≡ Pc to
-
-  goes_to : (next : Next) (before : Status) → is_going_status (status_after next before) ≡ true → GoesTo next
-  goes_to (Pc to) before going = record { to = to; is_so = refl }
-  goes_to (Ended n) before going = absurd (grind arith)
-  goes_to (Stopped cause) before going = absurd (grind arith)
 
   -- And a step that fits goes on where it may.
   goes_there : (h to : ℕ) → fits setup tables h s ≡ true → (effect_at setup s h).next ≡ Pc to → Goes h to
@@ -331,15 +292,6 @@ module _ (setup : Setup) (watched : ℕ → Bool) (tables : Tables) (good : IsTa
       ]
 
   -- ---- Reservations afterwards
-
-  own_replaced : (kind : Kind) (addr : ℕ) (held held2 : Option ℕ) → replaces_reservation kind ≡ true
-      → own_reservation kind addr held ≡ own_reservation kind addr held2
-  own_replaced Computing addr held held2 is = absurd (grind arith)
-  own_replaced Loading addr held held2 is = absurd (grind arith)
-  own_replaced Storing addr held held2 is = absurd (grind arith)
-  own_replaced Reserving addr held held2 is = refl
-  own_replaced Conditional addr held held2 is = refl
-  own_replaced Atomic addr held held2 is = absurd (grind arith)
 
   -- A hart's reservation behind its own step, where it matters: LR and SC make it anew, others keep it.
   own_reserved : (h : ℕ) → is_going_status (s.statuses h) ≡ true → fits setup tables h s ≡ true
