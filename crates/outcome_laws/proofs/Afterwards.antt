@@ -1,36 +1,20 @@
 -- Small facts of what an instruction leaves of its hart.
-use Rattle.std.specs.Prelude.{◌≡◌, ◌≢◌, ℕ, Bool, true, false, not, ◌==◌, ◌&&◌, ◌||◌, nat_lt, if◌then◌else◌}
-use Rattle.std.specs.Prelude.{◌++◌, Option}
-use Rattle.std.specs.List.{list_all}
-use Rattle.std.proofs.Common.{◌∙◌, refl, sym, ap, ap₂, subst, inl, inr, arith}
-use Rattle.std.proofs.{lemmas.Bool.cases_Bool, lemmas.Bool.Decides.nat_tests, Math.Path.fun_ext}
-use Rattle.elf_image.specs.Image.{word_now}
-use Rattle.elf_image.proofs.Words.{word_now-same}
+use Rattle.std.specs.Prelude.{◌≡◌, ◌≢◌, ℕ, Bool, true, false, not, ◌==◌, ◌&&◌, ◌||◌, if◌then◌else◌}
+use Rattle.std.specs.Prelude.{Option}
+use Rattle.std.proofs.Common.{refl, ap, inl, inr, arith}
+use Rattle.std.proofs.{lemmas.Bool.cases_Bool, lemmas.Bool.Decides.nat_tests}
 use Rattle.rv_instr.specs.declared.op.Op.{Op}
 use Rattle.events.specs.{declared.effect.Effect.Effect, declared.effect.Next.Next}
 use Rattle.events.specs.{declared.effect.Next.TheVariants.Pc, declared.effect.Next.TheVariants.Ended}
 use Rattle.events.specs.{declared.effect.Next.TheVariants.Stopped}
-use Rattle.smt_model.specs.{Setup.Setup, Nexts.is_last, Nexts.pc_after, declared.config.Status.Status}
-use Rattle.smt_model.specs.{Exec.Computed, Faults.computed_on, Words.op_of_word, Basics.below}
-use Rattle.smt_model.specs.Kinds.{Kind, Computing, Loading, Storing, Reserving, Conditional, Atomic, kind_of}
-use Rattle.smt_model.specs.Kinds.{destination, first_source, second_source, writes_register}
-use Rattle.smt_model.specs.{Bytes.read, Bytes.byte_after, Reservations.holds_word}
-use Rattle.smt_model.specs.{Reservations.reservation_after, Reservations.own_reservation, Plain.output_after}
-use Rattle.smt_model.specs.{Reservations.reservation_after_write}
-use Rattle.smt_model.specs.Plain.{Plain, is_going_status, register_after, status_after, read_register}
-use Rattle.smt_model.specs.Plain.{op_at_pc, computes, effect_at}
-use Rattle.smt_laws.proofs.{Registers.Reading.effect-next, Done.value-given}
-use Rattle.outcome_laws.specs.{Paths.can_step, Paths.stepped}
-use Rattle.outcome_laws.specs.Tables.{Tables, IsTables, IsAsCoded, op_at, may_change, may_go, reads_register}
+use Rattle.smt_model.specs.{Nexts.is_last, declared.config.Status.Status}
+use Rattle.smt_model.specs.Kinds.{Kind, Computing, Loading, Storing, Reserving, Conditional, Atomic}
+use Rattle.smt_model.specs.Kinds.{destination}
+use Rattle.smt_model.specs.{Reservations.holds_word}
+use Rattle.smt_model.specs.{Reservations.own_reservation}
+use Rattle.smt_model.specs.Plain.{is_going_status, register_after, status_after}
 use Rattle.outcome_laws.specs.Tables.{is_conditional}
 use Rattle.outcome_laws.specs.Tables.{replaces_reservation}
-use Rattle.outcome_laws.specs.Local.{Use, accesses, fetches, goes_on_within, fits, apart_from, is_apart}
-use Rattle.outcome_laws.specs.Local.{lacks_reservation, is_local}
-use Rattle.outcome_laws.specs.Live.{matters, reservation_matters, AreAlike, StepAlike, AlikeStatesStepAlike}
-use Rattle.outcome_laws.proofs.Facts.{first_of_both, second_of_both, either_left, either_right}
-use Rattle.outcome_laws.proofs.Known.{known, op_as_coded, goes_by_image}
-use Rattle.outcome_laws.proofs.Uses.{same_effect, effect_on}
-use Rattle.outcome_laws.proofs.Words.{access_lies}
 
 pub apart_or : (a b : Bool) → (a || b) ≡ true → a ≡ false → b ≡ true
 apart_or true b either none = absurd (grind arith)

@@ -340,11 +340,13 @@ module _ (setup : Setup) (tables : Tables) (good : IsTables setup.image tables) 
 
   x_keeps : (a before : ℕ) → is_written x.write (word_of_address a) ≡ false → byte_after x.write a before ≡ before
   x_keeps a before spared =
-      byte_stays op c (read op s.bytes c.addr) (holds_word (s.reserved g) c.addr) a before (access_lies setup s g) spared
+      byte_stays op c (read op s.bytes c.addr) (holds_word (s.reserved g) c.addr) a before
+      (access_lies setup s g) spared
 
   y_keeps : (a before : ℕ) → is_written y.write (word_of_address a) ≡ false → byte_after y.write a before ≡ before
   y_keeps a before spared =
-      byte_stays oq d (read oq s.bytes d.addr) (holds_word (s.reserved h) d.addr) a before (access_lies setup s h) spared
+      byte_stays oq d (read oq s.bytes d.addr) (holds_word (s.reserved h) d.addr) a before
+      (access_lies setup s h) spared
 
   bytes_agree : (a before : ℕ) → byte_after y.write a (byte_after x.write a before)
       ≡ byte_after x.write a (byte_after y.write a before)

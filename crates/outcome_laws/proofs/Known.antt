@@ -12,7 +12,8 @@ use Rattle.smt_model.specs.Reservations.{word_of_address, holds_word}
 use Rattle.smt_model.specs.Plain.{Plain, op_at_pc, computes, effect_at}
 use Rattle.smt_laws.proofs.{FixedCode.steps_keep_code}
 use Rattle.outcome_laws.specs.Paths.{stepped}
-use Rattle.outcome_laws.specs.Tables.{Tables, IsTables, op_at, may_change, may_go, IsAsCoded, StartsAsCoded, HoldsAsCoded}
+use Rattle.outcome_laws.specs.Tables.{Tables, IsTables, op_at, may_change, may_go, IsAsCoded, StartsAsCoded}
+use Rattle.outcome_laws.specs.Tables.{HoldsAsCoded}
 use Rattle.outcome_laws.specs.Local.{Use, the_output, reading, accesses, fetches, uses, goes_on_within, fits, is_local}
 use Rattle.outcome_laws.specs.{Live.AreAlike, Search.IsLocalPath}
 use Rattle.outcome_laws.proofs.Uses.{is_written, byte_stays, written_is_used, output_is_used}
@@ -28,7 +29,8 @@ pub record IsKnown (setup : Setup) (tables : Tables) (h : ℕ) (s : Plain) : Typ
   pub puts : is_some (effect_at setup s h).out ≡ true → tables.ahead h (s.pcs h) the_output true ≡ true
   pub touches : is_last (computes setup s h).next ≡ false → touches_memory (kind_of (op_at_pc setup s h)) ≡ true
       → tables.ahead h (s.pcs h) (word_of_address (computes setup s h).addr) false ≡ true
-  pub fetch : may_change setup.image tables (s.pcs h) ≡ true → tables.ahead h (s.pcs h) (word_of_address (s.pcs h)) false ≡ true
+  pub fetch : may_change setup.image tables (s.pcs h) ≡ true
+      → tables.ahead h (s.pcs h) (word_of_address (s.pcs h)) false ≡ true
   pub goes : goes_on_within setup.image tables (op_at_pc setup s h) (s.pcs h) (computes setup s h).next ≡ true
 
 touched : (tables : Tables) (image : ProgramImage) → IsTables image tables → (h pc word : ℕ) (writes : Bool)
@@ -49,7 +51,8 @@ known setup tables good h s is =
     let both : (list_all p (fetches setup.image tables (s.pcs h)) && list_all p (accesses op c)) ≡ true =
     sym (list_all-append p (fetches setup.image tables (s.pcs h)) (accesses op c)) ∙ all in
     let fetched = first_of_both (list_all p (fetches setup.image tables (s.pcs h))) (list_all p (accesses op c)) both in
-    let accessed = second_of_both (list_all p (fetches setup.image tables (s.pcs h))) (list_all p (accesses op c)) both in
+    let accessed = second_of_both (list_all p (fetches setup.image tables (s.pcs h)))
+    (list_all p (accesses op c)) both in
     record {
       writes = λ word written. written_is_used op c now held p word accessed written;
       puts = λ put. output_is_used op c now held p accessed put;
@@ -106,7 +109,8 @@ coded_next setup tables good h s coded fitting pc stays =
           not_both (tables.rewritten pc) (code_writable setup.image) stays writable in
           let spared : is_written (effect_at setup s h).write pc ≡ false =
           is_false (is_written (effect_at setup s h).write pc) (tables.rewritten pc)
-          (λ written. good.rewritten h (s.pcs h) pc ((known setup tables good h s fitting).writes pc written)) unwritten in
+          (λ written.
+          good.rewritten h (s.pcs h) pc ((known setup tables good h s fitting).writes pc written)) unwritten in
           same_code setup.image (stepped setup h s).bytes s.bytes pc (spared_word setup h s pc spared) ∙ coded pc stays
       | inr fixed ↦
           steps_keep_code setup fixed s h

@@ -1,21 +1,20 @@
 -- Alike states make alike steps.
 use Rattle.std.specs.Prelude.{◌≡◌, ◌≢◌, ℕ, Bool, true, false, not, ◌==◌, ◌&&◌, ◌||◌, nat_lt, if◌then◌else◌}
-use Rattle.std.specs.Prelude.{◌++◌, Option}
+use Rattle.std.specs.Prelude.{◌++◌}
 use Rattle.std.specs.List.{list_all}
 use Rattle.std.proofs.Common.{◌∙◌, refl, sym, ap, ap₂, subst, inl, inr, arith}
 use Rattle.std.proofs.{lemmas.Bool.cases_Bool, lemmas.Bool.Decides.nat_tests, Math.Path.fun_ext}
 use Rattle.elf_image.specs.Image.{word_now}
 use Rattle.elf_image.proofs.Words.{word_now-same}
 use Rattle.rv_instr.specs.declared.op.Op.{Op}
-use Rattle.events.specs.{declared.effect.Effect.Effect, declared.effect.Next.Next}
-use Rattle.events.specs.{declared.effect.Next.TheVariants.Pc, declared.effect.Next.TheVariants.Ended}
-use Rattle.events.specs.{declared.effect.Next.TheVariants.Stopped}
-use Rattle.smt_model.specs.{Setup.Setup, Nexts.is_last, Nexts.pc_after, declared.config.Status.Status}
+use Rattle.events.specs.{declared.effect.Effect.Effect}
+use Rattle.events.specs.{declared.effect.Next.TheVariants.Pc}
+use Rattle.smt_model.specs.{Setup.Setup, Nexts.is_last, Nexts.pc_after}
 use Rattle.smt_model.specs.{Exec.Computed, Faults.computed_on, Words.op_of_word, Basics.below}
-use Rattle.smt_model.specs.Kinds.{Kind, Computing, Loading, Storing, Reserving, Conditional, Atomic, kind_of}
+use Rattle.smt_model.specs.Kinds.{kind_of}
 use Rattle.smt_model.specs.Kinds.{destination, first_source, second_source, writes_register}
 use Rattle.smt_model.specs.{Bytes.read, Bytes.byte_after, Reservations.holds_word}
-use Rattle.smt_model.specs.{Reservations.reservation_after, Reservations.own_reservation, Plain.output_after}
+use Rattle.smt_model.specs.{Reservations.reservation_after, Plain.output_after}
 use Rattle.smt_model.specs.{Reservations.reservation_after_write}
 use Rattle.smt_model.specs.Plain.{Plain, is_going_status, register_after, status_after, read_register}
 use Rattle.smt_model.specs.Plain.{op_at_pc, computes, effect_at}
@@ -224,7 +223,8 @@ module _ (setup : Setup) (watched : ℕ → Bool) (tables : Tables) (good : IsTa
             (tables.live (pc_after next (s.pcs h)) r) both) in
             let lives : tables.live on.to r ≡ true =
             subst (λ n. tables.live (pc_after n (s.pcs h)) r ≡ true) on.is_so
-            (second_of_both (is_going_status (status_after next (s.statuses h))) (tables.live (pc_after next (s.pcs h)) r) both) in
+            (second_of_both (is_going_status (status_after next (s.statuses h)))
+            (tables.live (pc_after next (s.pcs h)) r) both) in
             live_matters h r going
             (live_stays h on.to r some (goes_there h on.to fitting on.is_so) lives other)
       ]
@@ -307,7 +307,8 @@ module _ (setup : Setup) (watched : ℕ → Bool) (tables : Tables) (good : IsTa
       (tables.kept (pc_after x.next (s.pcs h))) now) in
       let keeps : tables.kept on.to ≡ true =
       subst (λ n. tables.kept (pc_after n (s.pcs h)) ≡ true) on.is_so
-      (second_of_both (is_going_status (status_after x.next (s.statuses h))) (tables.kept (pc_after x.next (s.pcs h))) now) in
+      (second_of_both (is_going_status (status_after x.next (s.statuses h)))
+      (tables.kept (pc_after x.next (s.pcs h))) now) in
       elim (cases_Bool (replaces_reservation (kind_of op))) [
         | inl replaces ↦
             let going_on : is_last x.next ≡ false = ap is_last on.is_so in

@@ -173,7 +173,8 @@ Accesses setup tables g s =
 module _ (setup : Setup) (tables : Tables) (good : IsTables setup.image tables) (g h : ℕ) (s : Plain)
     (apart : (h == g) ≡ false) (can : can_step setup h s ≡ true) where
   clear_fetch : list_all (is_apart setup tables g s) (fetches setup.image tables (s.pcs g)) ≡ true
-      → may_change setup.image tables (s.pcs g) ≡ true → tables.ahead h (s.pcs h) (word_of_address (s.pcs g)) true ≡ false
+      → may_change setup.image tables (s.pcs g) ≡ true
+      → tables.ahead h (s.pcs h) (word_of_address (s.pcs g)) true ≡ false
   clear_fetch all changes =
       let each : list_all (spares tables h s) (fetches setup.image tables (s.pcs g)) ≡ true =
       all_weaker (is_apart setup tables g s) (spares tables h s) (fetches setup.image tables (s.pcs g))

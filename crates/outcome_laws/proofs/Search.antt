@@ -15,7 +15,8 @@ use Rattle.outcome_laws.proofs.Known.{local_fits, coded_next, coded_local, coded
 matters_too : (watched : ℕ → Bool) (tables : Tables) (s t : Plain) → AreAlike watched tables s t → (h r : ℕ)
     → matters watched tables.live t h r ≡ matters watched tables.live s h r
 matters_too watched tables s t alike h r =
-    ap₂ (λ status pc. watched r || (is_going_status status && tables.live pc r)) (sym (alike.statuses h)) (sym (alike.pcs h))
+    ap₂ (λ status pc. watched r || (is_going_status status && tables.live pc r)) (sym (alike.statuses h))
+    (sym (alike.pcs h))
 
 reservation_matters_too : (watched : ℕ → Bool) (tables : Tables) (s t : Plain) → AreAlike watched tables s t → (h : ℕ)
     → reservation_matters tables.kept t h ≡ reservation_matters tables.kept s h
@@ -72,7 +73,8 @@ pub record GoesAlike (setup : Setup) (watched : ℕ → Bool) (tables : Tables) 
   pub alike : AreAlike watched tables u there
 
 pub goes_alike : (setup : Setup) (watched : ℕ → Bool) (tables : Tables) → IsTables setup.image tables
-    → (order : List ℕ) (s t u : Plain) → IsAsCoded setup tables s → AreAlike watched tables s t → IsLocalPath setup tables order s u
+    → (order : List ℕ) (s t u : Plain) → IsAsCoded setup tables s → AreAlike watched tables s t
+    → IsLocalPath setup tables order s u
     → GoesAlike setup watched tables order u t
 goes_alike setup watched tables good [] s t u coded alike same = record {
   there = t;

@@ -42,7 +42,8 @@ fits_before setup tables good h (g ∷ order) u w coded way can last =
           subst (λ k. fits setup tables k u ≡ true) is (local_fits setup tables g u way.1)
       | inr apart ↦
           own setup tables good g h u apart coded can way.1
-          (fits_before setup tables good h order (stepped setup g u) w (coded_next setup tables good g u coded (local_fits setup tables g u way.1)) way.2
+          (fits_before setup tables good h order (stepped setup g u) w
+          (coded_next setup tables good g u coded (local_fits setup tables g u way.1)) way.2
           (can_still setup g h u apart ∙ can) last)
     ]
 
@@ -80,7 +81,8 @@ beside setup tables good h (g ∷ order) u w coded way can last =
           })
       | inr apart ↦
           let fitting = fits_before setup tables good h (g ∷ order) u w coded way can last in
-          elim (beside setup tables good h order (stepped setup g u) w (coded_next setup tables good g u coded (local_fits setup tables g u way.1)) way.2
+          elim (beside setup tables good h order (stepped setup g u) w
+          (coded_next setup tables good g u coded (local_fits setup tables g u way.1)) way.2
           (can_still setup g h u apart ∙ can) last) [
             | inl made ↦ inl (behind setup tables good g h u w w coded apart way.0 can way.1 fitting made)
             | inr left ↦
@@ -129,7 +131,8 @@ module _ (setup : Setup) (watched : ℕ → Bool) (tables : Tables) (good : IsTa
   bound_fits u coded bound h can =
       let way = bound.settles in
       fits_before setup tables good h way.order u way.there coded way.local can
-      (fits_there h way.there bound.state (coded_local setup tables good way.order u way.there coded way.local) bound.reached
+      (fits_there h way.there bound.state (coded_local setup tables good way.order u way.there coded way.local)
+      bound.reached
       way.alike)
 
   -- A hart's step that isn't among the local ones is made of the visited state too, and settles there.
@@ -257,7 +260,8 @@ ends_alike setup watched tables good (h ∷ order) s t e coded fitting alike lea
     let one = alike_states_step_alike setup watched tables good s t coded alike h can_s fits_s in
     let can : can_step setup h t ≡ true = one.can ∙ can_s in
     let rest = ends_alike setup watched tables good order (stepped setup h s) (stepped setup h t) e
-    (coded_next setup tables good h s coded fits_s) (λ more u on. fitting (h ∷ more) u (rw can_s on)) one.alike split.1 end in
+    (coded_next setup tables good h s coded fits_s) (λ more u on. fitting (h ∷ more) u (rw can_s on)) one.alike
+    split.1 end in
     record { order = h ∷ rest.order; last = rest.last; leads = rw can rest.leads; is_end = rest.is_end }
 
 pub each_can_end : EachCanEnd

@@ -108,14 +108,19 @@ module _ (setup : Setup) (tables : Tables) (good : IsTables setup.image tables) 
   still_fetched all =
       subst (λ pc. list_all (is_apart setup tables g sh) (fetches setup.image tables pc) ≡ true)
       (sym (pc_still setup h g s back))
-      (all_weaker (is_apart setup tables g s) (is_apart setup tables g sh) (fetches setup.image tables (s.pcs g)) still_apart
+      (all_weaker (is_apart setup tables g s) (is_apart setup tables g sh) (fetches setup.image tables (s.pcs g))
+      still_apart
       all)
 
   same_op : op_at_pc setup sh g ≡ op_at_pc setup s g
-  same_op = finds_op setup tables h g s coded after back (commuting.fetch_of_g setup tables good g h s apart coded can local fitting)
+  same_op =
+      finds_op setup tables h g s coded after back
+      (commuting.fetch_of_g setup tables good g h s apart coded can local fitting)
 
   same_computes : computes setup sh g ≡ computes setup s g
-  same_computes = finds setup tables h g s coded after back (commuting.fetch_of_g setup tables good g h s apart coded can local fitting)
+  same_computes =
+      finds setup tables h g s coded after back
+      (commuting.fetch_of_g setup tables good g h s apart coded can local fitting)
 
   still_accessed : access_tests s ≡ true → access_tests sh ≡ true
   still_accessed all =

@@ -1,28 +1,18 @@
 -- What a step changes and depends on is what it uses: it writes no word beside, and reads none.
-use Rattle.std.specs.Prelude.{◌≡◌, ◌⊎◌, ℕ, zero, suc, ◌+◌, ◌*◌, ◌%◌, ◌^◌, ◌≤◌, ◌<◌, Bool, true, false, not, ◌==◌, ◌&&◌}
+use Rattle.std.specs.Prelude.{◌≡◌, ℕ, zero, suc, ◌+◌, ◌*◌, ◌%◌, ◌^◌, ◌≤◌, ◌<◌, Bool, true, false, ◌==◌, ◌&&◌}
 use Rattle.std.specs.Prelude.{nat_le, nat_lt, if◌then◌else◌, [], ◌∷◌, Option, Some, None, is_some, IfSome}
-use Rattle.std.specs.Prelude.{option_map, unwrap_or}
 use Rattle.std.specs.List.{list_all}
 use Rattle.std.proofs.Common.{◌∙◌, refl, sym, ap, ap₂, subst, inl, inr, arith}
 use Rattle.std.proofs.{lemmas.Bool.cases_Bool, lemmas.Bool.Decides.nat_tests}
 use Rattle.elf_image.specs.Image.{ProgramImage, word_now, has_code_word}
 use Rattle.elf_image.proofs.Words.{word_now-at}
-use Rattle.rv_instr.specs.{declared.op.Op.Op, declared.op.Op.TheVariants.Known, declared.op.Op.TheVariants.Illegal}
-use Rattle.rv_instr.specs.{declared.op.Op.TheVariants.NoWord, declared.instr.Instr.Instr}
-use Rattle.rv_instr.specs.declared.instr.Instr.TheVariants.{Load, Store}
-use Rattle.rv_instr.specs.{declared.instr.LoadOp.LoadOp, declared.instr.StoreOp.StoreOp}
-use Rattle.rv_instr.specs.declared.instr.StoreOp.TheVariants.{Sb, Sh, Sw}
-use Rattle.rv_instr.specs.declared.instr.LoadOp.TheVariants.{Lb, Lh, Lw, Lbu, Lhu}
-use Rattle.events.specs.{declared.effect.Effect.Effect, declared.effect.Written.Written, declared.effect.Next.Next}
-use Rattle.events.specs.{declared.effect.Next.TheVariants.Stopped}
-use Rattle.smt_model.specs.{Setup.Setup, Exec.Computed, Exec.exec, Nexts.is_last, Effects.effect_by, Effects.effect_of}
+use Rattle.rv_instr.specs.{declared.op.Op.Op}
+use Rattle.events.specs.{declared.effect.Effect.Effect, declared.effect.Written.Written}
+use Rattle.smt_model.specs.{Exec.Computed, Nexts.is_last, Effects.effect_by, Effects.effect_of}
 use Rattle.smt_model.specs.Bytes.{read, number_at, byte_after, read_value}
 use Rattle.smt_model.specs.Reservations.{word_of_address, holds_word, reservation_after, reservation_after_write}
-use Rattle.smt_model.specs.Faults.{fault, fault_of, checked}
 use Rattle.smt_model.specs.Kinds.{Kind, Computing, Loading, Storing, Reserving, Conditional, Atomic, kind_of}
-use Rattle.smt_model.specs.Kinds.{access_size, is_loading, is_storing, touches_memory, writes_register, load_size}
-use Rattle.smt_model.specs.Kinds.{store_size, first_source, second_source}
-use Rattle.smt_model.specs.Plain.{Plain, op_at_pc, computes, read_register}
+use Rattle.smt_model.specs.Kinds.{access_size, is_loading, is_storing, touches_memory, writes_register}
 use Rattle.outcome_laws.specs.Tables.{is_conditional}
 use Rattle.outcome_laws.specs.Local.{Use, reading, writing, the_output, accesses, accesses_by}
 use Rattle.outcome_laws.proofs.Words.{LiesInWord, AccessLies, word_moved}
@@ -197,7 +187,8 @@ kind_same : (kind : Kind) (op : Op) (writes : Bool) (c : Computed) (bytes1 bytes
     ≡ effect_by kind op writes c (read op bytes2 c.addr) (holds_word held2 c.addr)
 kind_same Computing op writes c bytes1 bytes2 held1 held2 lies agree = refl
 kind_same Loading op writes c bytes1 bytes2 held1 held2 lies agree =
-    ap (λ now. effect_by Loading op writes c now false) (same_read op bytes1 bytes2 c.addr (lies refl) (agree refl).bytes)
+    ap (λ now. effect_by Loading op writes c now false)
+    (same_read op bytes1 bytes2 c.addr (lies refl) (agree refl).bytes)
 kind_same Storing op writes c bytes1 bytes2 held1 held2 lies agree = refl
 kind_same Reserving op writes c bytes1 bytes2 held1 held2 lies agree =
     ap (λ now. effect_by Reserving op writes c now false)
@@ -205,7 +196,8 @@ kind_same Reserving op writes c bytes1 bytes2 held1 held2 lies agree =
 kind_same Conditional op writes c bytes1 bytes2 held1 held2 lies agree =
     ap (effect_by Conditional op writes c 0) ((agree refl).held refl)
 kind_same Atomic op writes c bytes1 bytes2 held1 held2 lies agree =
-    ap (λ now. effect_by Atomic op writes c now false) (same_read op bytes1 bytes2 c.addr (lies refl) (agree refl).bytes)
+    ap (λ now. effect_by Atomic op writes c now false)
+    (same_read op bytes1 bytes2 c.addr (lies refl) (agree refl).bytes)
 
 abbrev pub effect_on : Op → Computed → (ℕ → ℕ) → Option ℕ → Effect
 effect_on op c bytes held = effect_of op c (read op bytes c.addr) (holds_word held c.addr)

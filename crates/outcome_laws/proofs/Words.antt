@@ -1,26 +1,23 @@
 -- What an instruction accesses lies in one aligned word.
-use Rattle.std.specs.Prelude.{◌≡◌, ◌⊎◌, ℕ, zero, suc, ◌+◌, ◌*◌, ◌%◌, ◌^◌, ◌≤◌, ◌<◌, Bool, true, false, not, ◌==◌, ◌&&◌}
-use Rattle.std.specs.Prelude.{nat_le, nat_lt, if◌then◌else◌, [], ◌∷◌, Option, Some, None, is_some, IfSome}
+use Rattle.std.specs.Prelude.{◌≡◌, ◌⊎◌, ℕ, ◌+◌, ◌%◌, ◌≤◌, ◌<◌, Bool, true, false, not, ◌==◌}
+use Rattle.std.specs.Prelude.{if◌then◌else◌, Option, Some, None}
 use Rattle.std.specs.Prelude.{option_map, unwrap_or}
-use Rattle.std.specs.List.{list_all}
-use Rattle.std.proofs.Common.{◌∙◌, refl, sym, ap, ap₂, subst, inl, inr, arith}
+use Rattle.std.proofs.Common.{refl, sym, ap, subst, inl, inr, arith}
 use Rattle.std.proofs.{lemmas.Bool.cases_Bool, lemmas.Bool.Decides.nat_tests}
-use Rattle.elf_image.specs.Image.{ProgramImage, word_now, has_code_word}
-use Rattle.elf_image.proofs.Words.{word_now-at}
+use Rattle.elf_image.specs.Image.{ProgramImage}
 use Rattle.rv_instr.specs.{declared.op.Op.Op, declared.op.Op.TheVariants.Known, declared.op.Op.TheVariants.Illegal}
 use Rattle.rv_instr.specs.{declared.op.Op.TheVariants.NoWord, declared.instr.Instr.Instr}
 use Rattle.rv_instr.specs.declared.instr.Instr.TheVariants.{Load, Store}
 use Rattle.rv_instr.specs.{declared.instr.LoadOp.LoadOp, declared.instr.StoreOp.StoreOp}
 use Rattle.rv_instr.specs.declared.instr.StoreOp.TheVariants.{Sb, Sh, Sw}
 use Rattle.rv_instr.specs.declared.instr.LoadOp.TheVariants.{Lb, Lh, Lw, Lbu, Lhu}
-use Rattle.events.specs.{declared.effect.Effect.Effect, declared.effect.Written.Written, declared.effect.Next.Next}
+use Rattle.events.specs.{declared.effect.Next.Next}
 use Rattle.events.specs.{declared.effect.Next.TheVariants.Stopped}
-use Rattle.smt_model.specs.{Setup.Setup, Exec.Computed, Exec.exec, Nexts.is_last, Effects.effect_by, Effects.effect_of}
-use Rattle.smt_model.specs.Bytes.{read, number_at, byte_after, read_value}
-use Rattle.smt_model.specs.Reservations.{word_of_address, holds_word, reservation_after, reservation_after_write}
+use Rattle.smt_model.specs.{Setup.Setup, Exec.Computed, Exec.exec, Nexts.is_last}
+use Rattle.smt_model.specs.Reservations.{word_of_address}
 use Rattle.smt_model.specs.Faults.{fault, fault_of, checked}
 use Rattle.smt_model.specs.Kinds.{Kind, Computing, Loading, Storing, Reserving, Conditional, Atomic, kind_of}
-use Rattle.smt_model.specs.Kinds.{access_size, is_loading, is_storing, touches_memory, writes_register, load_size}
+use Rattle.smt_model.specs.Kinds.{access_size, is_loading, is_storing, touches_memory, load_size}
 use Rattle.smt_model.specs.Kinds.{store_size, first_source, second_source}
 use Rattle.smt_model.specs.Plain.{Plain, op_at_pc, computes, read_register}
 

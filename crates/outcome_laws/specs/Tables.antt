@@ -1,10 +1,10 @@
 -- What a search knows ahead of each step, in tables by pc: which registers may be read yet, whether a
 -- reservation may be used yet, where a jump by a register goes, which words may be touched yet, and which
 -- are never written. Each column is checked along the code, once, when it is made; that a step does nothing
--- but what the tables say is checked of each step that the search makes. [Aho, Lam, Sethi and Ullman, "Compilers", section
--- 9.2: data-flow analysis backwards; Godefroid 1996, "Partial-Order Methods for the Verification of
--- Concurrent Systems": what a process may do from now on; Peled 1993, "All from one, one for all": which
--- steps are seen]
+-- but what the tables say is checked of each step that the search makes. [Aho, Lam, Sethi and Ullman,
+-- "Compilers", section 9.2: data-flow analysis backwards; Godefroid 1996, "Partial-Order Methods for the
+-- Verification of Concurrent Systems": what a process may do from now on; Peled 1993, "All from one, one
+-- for all": which steps are seen]
 use Rattle.std.specs.Prelude.{◌≡◌, ◌≢◌, ℕ, Bool, true, false, ◌==◌, ◌&&◌, ◌||◌, if◌then◌else◌}
 use Rattle.rv_word.specs.Word.{sum_of}
 use Rattle.rv_instr.specs.declared.instr.Instr.TheVariants as instr
