@@ -122,6 +122,20 @@ follows setup s h to is =
     let b = read_register s h (second_source op) in
     goes op (s.pcs h) a b to (checked_goes setup.image op (exec op (s.pcs h) a b) to is)
 
+-- Where the code doesn't change, an instruction goes on only where its own words let it.
+follows_if : (op : Op) (targets : ℕ → ℕ → Bool) (pc to : ℕ)
+    → (if goes_anywhere op then targets pc to else may_follow op pc to) ≡ true → may_follow op pc to ≡ true
+unfolding goes_anywhere may_follow
+follows_if (Known (instr.Jalr rd rs1 offset)) targets pc to goes = refl
+follows_if (Known i) targets pc to goes = goes
+follows_if Illegal targets pc to goes = goes
+follows_if NoWord targets pc to goes = goes
+
+pub follows_where_it_goes : (changes : ℕ → Bool) (targets : ℕ → ℕ → Bool) (op : Op) (pc to : ℕ) → changes pc ≡ false
+    → may_go changes targets op pc to ≡ true → may_follow op pc to ≡ true
+follows_where_it_goes changes targets op pc to stays goes =
+    follows_if op targets pc to (rw stays at goes)
+
 -- ---- Every step fits
 
 always : (test : Use → Bool) (us : List Use) → ((u : Use) → test u ≡ true) → list_all test us ≡ true
