@@ -1,8 +1,8 @@
 pub mod Paths
 pub mod Holding
+pub mod Facts
 pub mod Words
 pub mod Uses
-pub mod Facts
 pub mod Silent
 pub mod Known
 pub mod Local

@@ -166,8 +166,8 @@ spared_use tables image good h pc word true none =
     (not_true (tables.ahead h pc word false) none)
 spared_use tables image good h pc word false none = not_true (tables.ahead h pc word true) none
 
-abbrev Accesses : Setup → Tables → ℕ → Plain → Bool
-Accesses setup tables g s =
+abbrev accesses_apart : Setup → Tables → ℕ → Plain → Bool
+accesses_apart setup tables g s =
     list_all (is_apart setup tables g s) (accesses (op_at_pc setup s g) (computes setup s g))
 
 module _ (setup : Setup) (tables : Tables) (good : IsTables setup.image tables) (g h : ℕ) (s : Plain)
@@ -184,7 +184,7 @@ module _ (setup : Setup) (tables : Tables) (good : IsTables setup.image tables) 
       (first_of_both (spares tables h s u) true (rw changes at each))
 
   clear_apart : list_all (is_apart setup tables g s) (fetches setup.image tables (s.pcs g)) ≡ true
-      → Accesses setup tables g s ≡ true → IsClear setup tables g h s
+      → accesses_apart setup tables g s ≡ true → IsClear setup tables g h s
   clear_apart fetched accessed =
       let op = op_at_pc setup s g in
       let c = computes setup s g in
@@ -225,7 +225,7 @@ module _ (setup : Setup) (tables : Tables) (good : IsTables setup.image tables) 
   pub clear : is_local setup tables g s ≡ true → IsClear setup tables g h s
   clear local =
       let fetched = list_all (is_apart setup tables g s) (fetches setup.image tables (s.pcs g)) in
-      let accessed = Accesses setup tables g s in
+      let accessed = accesses_apart setup tables g s in
       let rest = second_of_both (fits setup tables g s) _ local in
       let first = first_of_both fetched (accessed || lacks_reservation setup g s) rest in
       elim (one_of_two accessed (lacks_reservation setup g s)

@@ -15,6 +15,7 @@ use Rattle.smt_model.specs.Kinds.{Kind, Computing, Loading, Storing, Reserving, 
 use Rattle.smt_model.specs.Kinds.{access_size, is_loading, is_storing, touches_memory, writes_register}
 use Rattle.outcome_laws.specs.Tables.{is_conditional}
 use Rattle.outcome_laws.specs.Local.{Use, reading, writing, the_output, accesses, accesses_by}
+use Rattle.outcome_laws.proofs.Facts.{first_of_both, second_of_both}
 use Rattle.outcome_laws.proofs.Words.{LiesInWord, AccessLies, word_moved}
 
 -- ---- What is written
@@ -51,22 +52,14 @@ write_lies op c now held lies =
       | inr going ↦ rw going (kind_lies (kind_of op) op c now held refl (lies going))
     ]
 
-inside_first : (a b : Bool) → (a && b) ≡ true → a ≡ true
-inside_first true b both = refl
-inside_first false b both = absurd (grind arith)
-
-inside_second : (a b : Bool) → (a && b) ≡ true → b ≡ true
-inside_second true b both = both
-inside_second false b both = absurd (grind arith)
-
 byte_spared : (write : Option Written) (a before : ℕ) → WriteLies write → is_written write (word_of_address a) ≡ false
     → byte_after write a before ≡ before
 byte_spared None a before lies spared = refl
 byte_spared (Some w) a before lies spared =
     elim (cases_Bool (nat_le w.addr a && nat_lt a (w.addr + w.n))) [
       | inl inside ↦
-          let from : w.addr ≤ a = grind (arith, nat_tests, inside_first (nat_le w.addr a) _ inside) in
-          let below : a < w.addr + w.n = grind (arith, nat_tests, inside_second (nat_le w.addr a) _ inside) in
+          let from : w.addr ≤ a = grind (arith, nat_tests, first_of_both (nat_le w.addr a) _ inside) in
+          let below : a < w.addr + w.n = grind (arith, nat_tests, second_of_both (nat_le w.addr a) _ inside) in
           let same : word_of_address a ≡ word_of_address w.addr = lies a from below in
           absurd (grind (arith, nat_tests, same, spared))
       | inr outside ↦ rw outside refl
@@ -82,7 +75,7 @@ byte_stays op c now held a before lies spared =
 -- ---- What is written is used
 
 one_of : (p : Use → Bool) (u : Use) → list_all p (u ∷ []) ≡ true → p u ≡ true
-one_of p u all = inside_first (p u) true all
+one_of p u all = first_of_both (p u) true all
 
 written_word : (p : Use → Bool) (addr word : ℕ) → list_all p (writing (word_of_address addr) ∷ []) ≡ true
     → (word_of_address addr == word) ≡ true → p (writing word) ≡ true
