@@ -8,3 +8,5 @@ pub mod OfMigration
 pub mod OfRuns
 mod OfLabels
 mod OfCores
+mod OfSuites
+mod OfSuiteLine

@@ -4,3 +4,4 @@ pub mod Written
 pub mod Explain
 pub mod List
 pub mod Typed
+pub mod Suites

@@ -15,6 +15,18 @@ pub struct FileFaults {
     pub output: Option<FileFault>,
 }
 
+impl FileFaults {
+    /// None has come up.
+    pub const NONE: FileFaults = FileFaults {
+        config: None,
+        program: None,
+        second: None,
+        lines: None,
+        written: None,
+        output: None,
+    };
+}
+
 /// A fault of a line, and all that its hint is made of.
 #[derive(Clone, Copy, Drop)]
 pub struct LineFault<'line, 'inputs> {

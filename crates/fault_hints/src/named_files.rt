@@ -23,6 +23,7 @@ fn second_role(line: &Line<'_>) -> &'static str {
     match line.command {
         Command::OfProgram(ProgramCommand::Step(_)) => "the script",
         Command::OfProgram(ProgramCommand::Plain(_) | ProgramCommand::Schedule(_)) => "the order",
+        Command::Litmus(_) => "the summary",
         _ => "the trace",
     }
 }
@@ -75,8 +76,16 @@ pub(crate) fn add_second(
     hint: &mut Hint,
     alloc: Global,
 ) -> Result<(), AllocError> {
-    match fault.line.files().second {
-        Some(name) => add_read(name, second_role(fault.line), hint, alloc),
+    add_second_of(fault.line, hint, alloc)
+}
+
+pub(crate) fn add_second_of(
+    line: &Line<'_>,
+    hint: &mut Hint,
+    alloc: Global,
+) -> Result<(), AllocError> {
+    match line.files().second {
+        Some(name) => add_read(name, second_role(line), hint, alloc),
         None => Ok(()),
     }
 }

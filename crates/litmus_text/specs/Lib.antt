@@ -3,3 +3,4 @@ pub mod Condition
 pub mod State
 pub mod Summary
 pub mod States
+pub mod Verdict

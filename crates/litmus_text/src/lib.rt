@@ -2,7 +2,7 @@
 //! Cats", 2014): a line a state, whether they are as the test asks, and of how many its condition holds.
 //!
 //! Read in this order: `value` (numbers, and what is looked at), `condition`, `state` (the line of a state),
-//! `summary` (what is said of all of them), `states` (the whole text).
+//! `summary` (what is said of all of them), `states` (the whole text), `verdict` (what is said of them, in numbers).
 #![tactic(auto)]
 
 mod condition;
@@ -10,5 +10,7 @@ mod state;
 mod states;
 mod summary;
 mod value;
+mod verdict;
 
 pub use states::{holds_of_any, write_states};
+pub use verdict::{StatesVerdict, verdict_of};

@@ -44,7 +44,7 @@ pub fn holds_of_any(test: &LitmusTest, outcomes: &Outcomes) -> bool
 }
 
 /// Of how many final states the condition holds.
-fn held_of(test: &LitmusTest, outcomes: &Outcomes) -> usize
+pub(crate) fn held_of(test: &LitmusTest, outcomes: &Outcomes) -> usize
     requires { IsWellFormed test.now }
     ensures held { result ≡ holding (states_in test.now outcomes.now.listed) test.now.condition }
     ensures few { result ≤ length (told_in test.now outcomes.now.listed) }
@@ -57,7 +57,7 @@ fn held_of(test: &LitmusTest, outcomes: &Outcomes) -> usize
 }
 
 /// How many outcomes are final states of the test.
-fn passing_of(test: &LitmusTest, outcomes: &Outcomes) -> usize
+pub(crate) fn passing_of(test: &LitmusTest, outcomes: &Outcomes) -> usize
     requires { IsWellFormed test.now }
     ensures { result ≡ length (told_in test.now outcomes.now.listed) }
 {

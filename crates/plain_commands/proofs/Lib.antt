@@ -8,3 +8,5 @@ pub mod OfLitmus
 pub mod Retired
 pub mod FirstSettling
 pub mod OfWrittenStories
+mod OfSuite
+mod OfSummary

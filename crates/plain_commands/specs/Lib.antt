@@ -7,3 +7,4 @@ pub mod Questions
 pub mod WrittenOrders
 pub mod Outcomes
 pub mod Litmus
+pub mod Suite

@@ -104,5 +104,5 @@ IsTestRefusal command _ = ⊥
 
 -- When each refusal comes.
 abbrev pub IsLitmusRefusal : List ℕ → LitmusCommand → Refused → Type 0
-IsLitmusRefusal text command (reasons.Litmus place fault) = IsPlaceIn text place
+IsLitmusRefusal text command (reasons.Litmus place fault) = IsPlaceIn text place × IsNoTest text
 IsLitmusRefusal text command reason = IsTestRefusal command reason

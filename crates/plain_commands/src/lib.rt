@@ -1,7 +1,8 @@
 //! The commands over the plain machine, and over orders of its harts.
 //!
 //! A module a command: `plain` and `plain_rounds` (an order, and turns without one), `schedule` (the script that
-//! makes a core retire in an order), `all_outcomes` and `litmus` (both over `searching`). Beside the first of these
+//! makes a core retire in an order), `all_outcomes` and `litmus` (both over `searching`), `suite` (many litmus tests:
+//! `litmus_summary` has the line of one, `telling` what is printed of each, `test_source` where they come from). Beside the first of these
 //! stand `asking` (its question, and what is watched), `settling` (which outcome answers it) and `written_orders` (the
 //! order that it writes), and beside `plain` too `drawn_orders` (the picture of an order's story). `retiring` has the
 //! law that a printed schedule is retired. What each command comes to, and when each of its refusals comes, stands in
@@ -12,12 +13,16 @@ mod all_outcomes;
 mod asking;
 mod drawn_orders;
 mod litmus;
+mod litmus_summary;
 mod plain;
 mod plain_rounds;
 pub mod retiring;
 mod schedule;
 mod searching;
 mod settling;
+mod suite;
+mod telling;
+mod test_source;
 mod written_orders;
 mod written_stories;
 
@@ -28,3 +33,6 @@ pub use plain::{perform_plain, tell_image};
 pub use plain_rounds::{MOST_STEPS, perform_rounds, rounds_of};
 pub use schedule::perform_schedule;
 pub use settling::status_of_answer;
+pub use suite::perform_suite;
+pub use telling::{LineTelling, Telling};
+pub use test_source::TestSource;

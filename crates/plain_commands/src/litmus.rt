@@ -1,6 +1,6 @@
 //! The command `litmus`: every final state of a litmus test.
 
-ghost use Rattle.std.specs.Prelude.{◌≡◌, ◌++◌, IfOk, IfErr, OnOk, is_some, true, false};
+ghost use Rattle.std.specs.Prelude.{◌≡◌, ◌⊎◌, ◌++◌, IfOk, IfErr, OnOk, is_some, true, false};
 ghost use Rattle.std.specs.Io.KnownBytes.{Appends};
 ghost use Rattle.elf_image.specs.Written.{file_of};
 ghost use Rattle.event_text.specs.{Sinking.HasPut};
@@ -45,6 +45,7 @@ pub fn perform_litmus<G: Gate, S: EndFiles, W: Write>(
     requires works { S.has_failed file.old ≡ false }
     requires finished { S.is_finished file.old ≡ true }
     ensures refused { IfErr result (IsLitmusRefusal text.now command.now) }
+    ensures unprinted { IfErr result (λ reason. (reason ≡ Output) ⊎ (W.contents out.new ≡ W.contents out.old)) }
     ensures ended { IfOk result (LitmusComesTo text.now command.now
         (HasPut S.written S.has_failed file.old file.new) (W.contents out.old) (W.contents out.new)) }
     ensures unwanted { is_some (written_for_test command.now) ≡ false → file.new ≡ file.old }
@@ -61,7 +62,7 @@ pub fn perform_litmus<G: Gate, S: EndFiles, W: Write>(
 }
 
 /// The test that a text is.
-fn test_of(text: &[u8], alloc: Global) -> Result<LitmusTest, Refused>
+pub(crate) fn test_of(text: &[u8], alloc: Global) -> Result<LitmusTest, Refused>
     ensures sound { IfOk result IsWellFormed }
     ensures read { IfOk result (IsTextOf text.now) }
     ensures refused { IfErr result (IsTextRefusal text.now) }
@@ -95,6 +96,7 @@ pub fn perform_test<G: Gate, S: EndFiles, W: Write>(
     requires works { S.has_failed file.old ≡ false }
     requires finished { S.is_finished file.old ≡ true }
     ensures refused { IfErr result (IsTestRefusal command.now) }
+    ensures unprinted { IfErr result (λ reason. (reason ≡ Output) ⊎ (W.contents out.new ≡ W.contents out.old)) }
     ensures ended { IfOk result (TestComesTo test.now command.now
         (HasPut S.written S.has_failed file.old file.new) (W.contents out.old) (W.contents out.new)) }
     ensures unwanted { is_some (written_for_test command.now) ≡ false → file.new ≡ file.old }
@@ -174,6 +176,7 @@ fn draw_and_print<S: EndFiles, W: Write>(
         (W.contents out.old) (W.contents out.new)) }
     ensures zero { IfOk result (λ status. status ≡ 0) }
     ensures refused { IfErr result (IsTestRefusal command.now) }
+    ensures unprinted { IfErr result (λ reason. (reason ≡ Output) ⊎ (W.contents out.new ≡ W.contents out.old)) }
     ensures unwanted { is_some command.now.svg ≡ false → file.new ≡ file.old }
     ensures unbroken { OnOk result (S.has_failed file.new ≡ false) }
     ensures finished { OnOk result (S.is_finished file.new ≡ true) }
@@ -187,7 +190,7 @@ fn draw_and_print<S: EndFiles, W: Write>(
 }
 
 /// Whether there is a state from which no order leads on to an end.
-fn can_be_stuck(outcomes: &Outcomes, alloc: Global) -> Result<bool, Refused>
+pub(crate) fn can_be_stuck(outcomes: &Outcomes, alloc: Global) -> Result<bool, Refused>
     requires { outcomes.now.extent ≡ Whole }
     ensures stuck { IfOk result (λ is_stuck. is_stuck ≡ is_some outcomes.now.stuck) }
     ensures refused { IfErr result (λ reason. reason ≡ Memory) }

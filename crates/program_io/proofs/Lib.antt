@@ -1,2 +1,3 @@
 pub mod OfTyped
+mod OfSuites
 mod Pieces

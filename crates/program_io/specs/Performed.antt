@@ -1,11 +1,15 @@
 -- What comes of the program's words. (This project's own choice.)
-use Rattle.std.specs.Prelude.{◌≡◌, ◌⊎◌, ℕ, Bool, false, ◌&&◌, List, [], Option, Some, None, IfNone}
+use Rattle.std.specs.Prelude.{◌≡◌, ◌⊎◌, ℕ, Bool, false, ◌&&◌, List, [], Option, Some, None, IfNone, IfSome}
 use Rattle.std.specs.Prelude.{Result, Ok, Err, Vec, is_some, if◌then◌else◌}
 use Rattle.std.specs.Borrow.{Bor}
 use Rattle.sim_inputs.specs.{declared.line.Line.Line, declared.line.WordsRefused.WordsRefused}
 use Rattle.sim_inputs.specs.CommandLine.{Asks, AreWordsRefusedFor}
 use Rattle.sim_inputs.specs.declared.line.Command.{Command}
-use Rattle.sim_inputs.specs.declared.line.Command.TheVariants.{OfProgram}
+use Rattle.sim_inputs.specs.declared.line.Command.TheVariants.{OfProgram, Litmus}
+use Rattle.sim_inputs.specs.declared.line.LitmusCommand.{LitmusCommand}
+use Rattle.plain_commands.specs.Suite.{IsKnown}
+use Rattle.commands.specs.Suites.{IsSuiteLineRefusal, suite_status_of}
+use Rattle.commands.specs.declared.suites.SuiteRefused.{SuiteRefused}
 use Rattle.sim_inputs.specs.declared.line.ProgramCommand.TheVariants.{Step}
 use Rattle.sim_inputs.specs.declared.line.StepCommand.{StepCommand}
 use Rattle.sim_inputs.specs.Files.{files_of, is_standard_input, reads_words}
@@ -57,11 +61,28 @@ pub record HasPerformed (at_terminal : Bool) (line : Line) (status : ℕ) : Type
       × (exit_status_of reason ≡ status)
       × IsRefusal line.harts line.command config program (uncommented_for line.command second) lines reason
 
+-- A line of several litmus tests was performed with this exit status. Where it is refused, or doesn't come to its end, the
+-- reason is one of this line, with its other files as they were read.
+abbrev pub IsRefusedSuite : LitmusCommand → Read → Read → ℕ → Option SuiteRefused → Type 0
+IsRefusedSuite litmus config summary status why = IfSome why (λ reason. (suite_status_of reason ≡ status)
+    × IsSuiteLineRefusal litmus config summary reason)
+
+pub record HasTested (line : Line) (status : ℕ) : Type 0 where
+  pub litmus : LitmusCommand
+  pub is_litmus : line.command ≡ Litmus litmus
+  pub config : Read
+  pub summary : Read
+  pub has_config : IsReadAs (files_of line).config config
+  pub has_summary : IsReadAs (files_of line).second summary
+  pub known : IsKnown status
+  pub why : Option SuiteRefused
+  pub refused : IsRefusedSuite litmus config summary status why
+
 -- Words asked for a line, and it was performed with this exit status.
 pub record HavePerformed (at_terminal : Bool) (words : List (List ℕ)) (status : ℕ) : Type 0 where
   pub line : Line
   pub asked : Asks words line
-  pub performed : HasPerformed at_terminal line status
+  pub performed : HasPerformed at_terminal line status ⊎ HasTested line status
 
 -- Words were refused with this exit status.
 pub record AreRefused (words : List (List ℕ)) (status : ℕ) : Type 0 where

@@ -118,7 +118,7 @@ fn retry(error: &Error) -> Result<(), ReadRefused>
 }
 
 /// Why there are no bytes of a file whose opening failed.
-fn unopened(error: &Error) -> ReadRefused
+pub(crate) fn unopened(error: &Error) -> ReadRefused
     ensures { result ≡ why_refused (error_kind error.now) }
 {
     match error.kind() {

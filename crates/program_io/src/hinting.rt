@@ -1,9 +1,14 @@
 //! The hint behind a fault, or of names that aren't there, made and written. One that can't be made, since there isn't
 //! enough memory for it, is left out, and so is one that can't be written.
 
+use crate::test_names::Absent;
 use crate::words::texts;
 use command_parts::Inputs;
-use fault_hints::{LineFault, WordsFault, add_line_fault, add_words_fault, why_nameless};
+use commands::SuiteRefused;
+use fault_hints::{
+    LineFault, WordsFault, add_absent_test, add_line_fault, add_summary_fault, add_words_fault,
+    why_nameless,
+};
 use hints::{Form, Hint, Part};
 use sim_inputs::{Line, hints_asked};
 use std::alloc::{AllocError, Global};
@@ -24,6 +29,48 @@ impl Hinting {
             return;
         };
         if let Ok(text) = line_hint(form, fault, self.alloc) {
+            let _ = err.write_all(text.as_slice());
+        }
+    }
+
+    /// Writes the hint of a fault of one of several tests, which is said so.
+    pub(crate) fn tell_test<E: Write>(&self, said: &str, fault: &LineFault<'_, '_>, err: &mut E) {
+        let Some(form) = fault.line.hints.form(self.on_terminal) else {
+            return;
+        };
+        if let Ok(text) = test_hint(form, said, fault, self.alloc) {
+            let _ = err.write_all(text.as_slice());
+        }
+    }
+
+    /// Writes the hint of a name of the line that comes to no test, which is said so.
+    pub(crate) fn tell_absent<E: Write>(
+        &self,
+        said: &str,
+        absent: &Absent,
+        line: &Line<'_>,
+        err: &mut E,
+    ) {
+        let Some(form) = line.hints.form(self.on_terminal) else {
+            return;
+        };
+        if let Ok(text) = absent_hint(form, said, absent, self.alloc) {
+            let _ = err.write_all(text.as_slice());
+        }
+    }
+
+    /// Writes the hint of a summary of which this line is none.
+    pub(crate) fn tell_summary<E: Write>(
+        &self,
+        number: usize,
+        line: &Line<'_>,
+        inputs: &Inputs<'_>,
+        err: &mut E,
+    ) {
+        let Some(form) = line.hints.form(self.on_terminal) else {
+            return;
+        };
+        if let Ok(text) = summary_hint(form, number, line, inputs, self.alloc) {
             let _ = err.write_all(text.as_slice());
         }
     }
@@ -65,9 +112,47 @@ impl Hinting {
 /// The text of the hint of a fault of a line.
 fn line_hint(form: Form, fault: &LineFault<'_, '_>, alloc: Global) -> Result<Vec<u8>, AllocError> {
     let said = fault.refused.to_string(alloc)?;
+    test_hint(form, said.as_str(), fault, alloc)
+}
+
+/// So it is of a fault that is said so.
+fn test_hint(
+    form: Form,
+    said: &str,
+    fault: &LineFault<'_, '_>,
+    alloc: Global,
+) -> Result<Vec<u8>, AllocError> {
     let status = fault.refused.exit_status();
-    let mut hint = Hint::new(form, said.as_str(), status, alloc)?;
+    let mut hint = Hint::new(form, said, status, alloc)?;
     add_line_fault(fault, &mut hint, alloc)?;
+    hint.finish()
+}
+
+/// The text of the hint of a name that comes to no test.
+fn absent_hint(
+    form: Form,
+    said: &str,
+    absent: &Absent,
+    alloc: Global,
+) -> Result<Vec<u8>, AllocError> {
+    let (path, why) = (absent.path.as_slice(), absent.why);
+    let mut hint = Hint::new(form, said, why.exit_status(), alloc)?;
+    add_absent_test(path, why, absent.cause, &mut hint, alloc)?;
+    hint.finish()
+}
+
+/// The text of the hint of a summary of which this line is none.
+fn summary_hint(
+    form: Form,
+    number: usize,
+    line: &Line<'_>,
+    inputs: &Inputs<'_>,
+    alloc: Global,
+) -> Result<Vec<u8>, AllocError> {
+    let refused = SuiteRefused::Summary(number);
+    let said = refused.to_string(alloc)?;
+    let mut hint = Hint::new(form, said.as_str(), refused.exit_status(), alloc)?;
+    add_summary_fault(number, line, inputs, &mut hint, alloc)?;
     hint.finish()
 }
 

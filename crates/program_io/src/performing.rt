@@ -137,7 +137,7 @@ impl<S: Files + Input + Threads + Wait + Sync, G: Gate + Sync, P: Predict + Copy
         status
     }
 
-    fn hinting(&self) -> Hinting {
+    pub(crate) fn hinting(&self) -> Hinting {
         Hinting {
             on_terminal: self.on_terminal,
             alloc: self.alloc,
@@ -162,13 +162,13 @@ impl<S: Files + Input + Threads + Wait + Sync, G: Gate + Sync, P: Predict + Copy
             Err(AllocError) => return Err(WordsRefused::Memory),
         };
         match read_words(texts.as_slice(), self.alloc) {
-            Ok(line) => Ok(self.read_and_perform(&line, &mut Noting::new(out), err)),
+            Ok(line) => Ok(self.perform_asked(&line, texts.as_slice(), &mut Noting::new(out), err)),
             Err(refused) => Err(refused),
         }
     }
 
     /// Reads the files that a line names, and performs its command.
-    fn read_and_perform<W: Write, E: Write>(
+    pub(crate) fn read_and_perform<W: Write, E: Write>(
         &self,
         line: &Line<'_>,
         out: &mut Noting<W>,

@@ -62,7 +62,7 @@ fn is_one<S: Files>(files: &S, read: Option<&str>, path: &str) -> bool
 
 /// Whether a file that is read, and one that is written, are one regular file. The system numbers its
 /// files, so it is told under whatever names.
-fn is_same_file<S: Files>(files: &S, read: &str, written: &str) -> bool {
+pub(crate) fn is_same_file<S: Files>(files: &S, read: &str, written: &str) -> bool {
     let read = if is_standard_input(read) {
         STANDARD_INPUT
     } else {

@@ -18,6 +18,7 @@ mod schedule;
 mod script;
 mod script_lines;
 mod script_rows;
+mod several_tests;
 mod step;
 mod stories_of_cores;
 mod stress;

@@ -256,5 +256,8 @@ pub fn litmus_line(why: bool) -> Line<'static> {
         why,
         image: None,
         svg: None,
+        summary: false,
+        expect: None,
+        several: false,
     },))
 }

@@ -10,7 +10,7 @@ use crate::rows::holds;
 use sim_inputs::{
     Beside, ChartCommand, ChartEnd, CheckCommand, Command, ExplainCommand, HintsWanted, Line,
     ListCommand, LitmusCommand, MigrateCommand, OutcomesCommand, PlainCommand, ProgramCommand,
-    QuestionText, RunCommand, ScheduleCommand, ScriptCommand, StepCommand, read_words,
+    QuestionText, RunCommand, ScheduleCommand, ScriptCommand, StepCommand, read_words, tests_asked,
 };
 use std::alloc::{AllocError, Global};
 use story_pictures::Theme;
@@ -449,7 +449,7 @@ const LINES: [(&str, Line<'_>); 21] = [
 ];
 
 /// Of other commands and options.
-const OTHER_LINES: [(&str, Line<'_>); 25] = [
+const OTHER_LINES: [(&str, Line<'_>); 28] = [
     (
         "smtsim list list.elf",
         Line {
@@ -854,6 +854,9 @@ const OTHER_LINES: [(&str, Line<'_>); 25] = [
                 why: false,
                 image: None,
                 svg: None,
+                summary: false,
+                expect: None,
+                several: false,
             }),
         },
     ),
@@ -869,6 +872,9 @@ const OTHER_LINES: [(&str, Line<'_>); 25] = [
                 why: true,
                 image: None,
                 svg: Some("s"),
+                summary: false,
+                expect: None,
+                several: false,
             }),
         },
     ),
@@ -884,6 +890,63 @@ const OTHER_LINES: [(&str, Line<'_>); 25] = [
                 why: false,
                 image: Some("i"),
                 svg: None,
+                summary: false,
+                expect: None,
+                several: false,
+            }),
+        },
+    ),
+    (
+        "smtsim litmus a b --why",
+        Line {
+            config: None,
+            harts: None,
+            hints: HintsWanted::Auto,
+            command: Command::Litmus(LitmusCommand {
+                test: "a",
+                states: 1_000_000,
+                why: true,
+                image: None,
+                svg: None,
+                summary: false,
+                expect: None,
+                several: true,
+            }),
+        },
+    ),
+    (
+        "smtsim litmus --summary @a",
+        Line {
+            config: None,
+            harts: None,
+            hints: HintsWanted::Auto,
+            command: Command::Litmus(LitmusCommand {
+                test: "@a",
+                states: 1_000_000,
+                why: false,
+                image: None,
+                svg: None,
+                summary: true,
+                expect: None,
+                several: true,
+            }),
+        },
+    ),
+    (
+        "smtsim litmus a --expect e",
+        Line {
+            config: None,
+            harts: None,
+            hints: HintsWanted::Auto,
+            command: Command::Litmus(LitmusCommand {
+                test: "a",
+                states: 1_000_000,
+                why: false,
+                image: None,
+                svg: None,
+                summary: false,
+                expect: Some("e"),
+                several: false,
             }),
         },
     ),
@@ -964,7 +1027,7 @@ fn forms_of(line: &Line<'_>) -> [bool; 3] {
         Command::OfProgram(ProgramCommand::Step(step)) => [step.why, step.counts, step.json],
         Command::OfProgram(ProgramCommand::Run(run)) => [run.why, run.counts, run.json],
         Command::OfProgram(ProgramCommand::Check(check)) => [check.why, check.counts, check.json],
-        Command::Litmus(litmus) => [litmus.why, false, false],
+        Command::Litmus(litmus) => [litmus.why, litmus.summary, litmus.several],
         _ => [false; 3],
     }
 }
@@ -981,7 +1044,7 @@ fn numbers_of<'a>(line: &Line<'a>) -> ([Option<u32>; 3], Option<&'a str>) {
             [Some(outcomes.states), outcomes.outcome, None],
             None,
         ),
-        Command::Litmus(litmus) => ([Some(litmus.states), None, None], None),
+        Command::Litmus(litmus) => ([Some(litmus.states), None, None], litmus.expect),
         _ => ([None, None, None], None),
     }
 }
@@ -1098,6 +1161,25 @@ fn each_line_is_read_with_its_files_and_options(rt: HostRuntime) {
     for (text, line) in &LINES {
         holds(&rt, text, asks(text, line, rt.alloc()) == Ok(true));
     }
+}
+
+#[test]
+fn the_tests_of_a_line_are_those_that_its_words_name(rt: HostRuntime) {
+    let words = [
+        "smtsim",
+        "litmus",
+        "a",
+        "--states",
+        "5",
+        "@b",
+        "c/",
+        "--summary",
+    ];
+    let is = match tests_asked(&words, rt.alloc()) {
+        Ok(tests) => tests.as_slice() == ["a", "@b", "c/"].as_slice(),
+        Err(_) => false,
+    };
+    holds(&rt, "several tests", is);
 }
 
 #[test]
@@ -1323,6 +1405,9 @@ const NAMED: [(Line<'_>, Named<'_>); 14] = [
                 why: false,
                 image: Some("i"),
                 svg: None,
+                summary: false,
+                expect: None,
+                several: false,
             }),
         },
         (None, Some("a"), None, Some("i")),
@@ -1338,6 +1423,9 @@ const NAMED: [(Line<'_>, Named<'_>); 14] = [
                 why: true,
                 image: None,
                 svg: Some("s"),
+                summary: false,
+                expect: None,
+                several: false,
             }),
         },
         (Some("c"), Some("a"), None, Some("s")),

@@ -38,7 +38,7 @@ second_given name rows =
     else (if bytes_eq name (codes "schedule") then given (codes "ORDER") rows
     else (if bytes_eq name (codes "explain") then beside_given rows
     else (if bytes_eq name (codes "run") then 0 else (if bytes_eq name (codes "list") then 0
-    else (if bytes_eq name (codes "outcomes") then 0 else (if bytes_eq name (codes "litmus") then 0
+    else (if bytes_eq name (codes "outcomes") then 0 else (if bytes_eq name (codes "litmus") then given (codes "expect") rows
     else given (codes "TRACE") rows)))))))
 
 abbrev lines_given : Text → List Row → ℕ
@@ -82,7 +82,7 @@ read_is name rows config (commands.OfProgram (program.Outcomes outcomes)) has is
 read_is name rows config (commands.Explain explain) has is =
     rw (is.0, has, is.1.image) (ap (λ n. input_count (text_of config) + input_count (Some explain.image.now) + n + 0)
     (beside_is rows explain.beside is.1.beside))
-read_is name rows config (commands.Litmus litmus) has is = rw (is.0, has, is.1.test) refl
+read_is name rows config (commands.Litmus litmus) has is = rw (is.0, has, is.1.test, is.1.expect) refl
 read_is name rows config (commands.Migrate migrate) has is = rw (is.0, has, is.1.trace) refl
 
 once_by_name : (name : Text) (rows : List Row) (line : Line) → first_of (codes "config") rows ≡ text_of line.config

@@ -10,5 +10,6 @@ pub mod Names
 pub mod Refusals
 pub mod Rows
 pub mod Searches
+pub mod Several
 pub mod Subcommand
 pub mod Written

@@ -15,7 +15,7 @@ is_simple : is_simple_and_free smtsim ≡ true
 is_simple = refl
 
 -- what was matched, and that there is no fault, of the command that was described
-matched : (a : App) (words : List Text) (m : ArgMatches) → a ≡ smtsim → HasMatchesOf a words m
+pub matched : (a : App) (words : List Text) (m : ArgMatches) → a ≡ smtsim → HasMatchesOf a words m
     → subcommand_rows_of m ≡ subcommand_of smtsim words
 matched a words m same has = (subst (λ (b : App). HasMatchesOf b words m) same has refl).1
 

@@ -40,6 +40,7 @@ use Rattle.sim_inputs.specs.Rules.{smtsim}
 use Rattle.sim_inputs.specs.Files.{is_standard_input, reads_input_once, writes_no_dash}
 use Rattle.sim_inputs.specs.HintsWanted.{hints_in}
 use Rattle.sim_inputs.specs.Themes.{can_be_themed, theme_in}
+use Rattle.sim_inputs.specs.SeveralTests.{are_several, is_told_alone, is_written_alone, names_input, tests_in}
 use Rattle.story_pictures.specs.declared.form.Theme.{Theme}
 
 -- The last event that a history may have; the last hart that a core may have; how often a program is
@@ -346,9 +347,11 @@ pub record IsOutcomes (rows : List Row) (outcomes : OutcomesCommand) : Type 0 wh
   pub lines : IsFileOption rows (codes "lines") outcomes.lines
   pub together : can_be_searched outcomes ≡ true
 
--- Some state is looked at, and one file at most is written: the image, or the picture.
+-- Some state is looked at, one file at most is written: the image, or the picture, of one test alone; and what stands
+-- in place of the states is alone too.
 abbrev pub can_be_tested : LitmusCommand → Bool
 can_be_tested litmus = nat_le 1 litmus.states && not (is_some litmus.image && is_some litmus.svg)
+    && is_written_alone litmus && is_told_alone litmus
 
 pub record IsLitmus (rows : List Row) (litmus : LitmusCommand) : Type 0 where
   pub test : IsFile rows (codes "TEST") litmus.test
@@ -356,7 +359,11 @@ pub record IsLitmus (rows : List Row) (litmus : LitmusCommand) : Type 0 where
   pub why : IsFlag rows (codes "why") litmus.why
   pub image : IsFileOption rows (codes "image") litmus.image
   pub svg : IsFileOption rows (codes "svg") litmus.svg
+  pub summary : IsFlag rows (codes "summary") litmus.summary
+  pub expect : IsFileOption rows (codes "expect") litmus.expect
+  pub several : are_several (tests_in rows) ≡ litmus.several
   pub together : can_be_tested litmus ≡ true
+  pub no_input : litmus.several && names_input (tests_in rows) ≡ false
 
 pub record IsMigrate (rows : List Row) (migrate : MigrateCommand) : Type 0 where
   pub trace : IsFile rows (codes "TRACE") migrate.trace

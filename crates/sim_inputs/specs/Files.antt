@@ -117,7 +117,7 @@ files_with config (commands.Explain explain) = record {
 files_with config (commands.Litmus litmus) = record {
   config = config;
   program = Some litmus.test;
-  second = None;
+  second = litmus.expect;
   lines = None;
   written = written_for_test litmus;
 }

@@ -5,5 +5,6 @@ pub mod Explained
 pub mod Files
 pub mod HintsWanted
 pub mod Rules
+pub mod SeveralTests
 pub mod Table
 pub mod Themes

@@ -4,11 +4,16 @@ use Rattle.std.specs.Prelude.{true, List, [], ◌∷◌, ◌++◌, Some, codes}
 use Rattle.std.specs.{List.fold}
 use Rattle.clap.specs.Words.{App, Rule, Text, new_app, new_rule, with_rule, with_subcommand}
 use Rattle.clap.specs.{declared.builder.action.ArgAction.TheVariants.SetTrue}
+use Rattle.clap.specs.{declared.builder.action.ArgAction.TheVariants.Append}
 
 -- An argument that names a file and must be there: the image, the script, the trace, the order, the
 -- litmus test, and the file that a migration writes.
 abbrev pub file_rule : Text → Rule
 file_rule name = record (new_rule name) { required = true }
+
+-- One that names files, of which one must be there: litmus tests.
+abbrev pub files_rule : Text → Rule
+files_rule name = record (new_rule name) { required = true; action = Some Append }
 
 -- One that names a file and may be there: the order, in whose place there may be rounds.
 abbrev pub optional_file_rule : Text → Rule
@@ -165,7 +170,13 @@ abbrev pub explained_order_rule : Rule
 explained_order_rule = file_option_rule (codes "order")
 
 abbrev pub test_rule : Rule
-test_rule = file_rule (codes "TEST")
+test_rule = files_rule (codes "TEST")
+
+abbrev pub summary_rule : Rule
+summary_rule = flag_rule (codes "summary")
+
+abbrev pub expect_rule : Rule
+expect_rule = file_option_rule (codes "expect")
 
 abbrev pub written_image_rule : Rule
 written_image_rule = file_option_rule (codes "image")
@@ -241,10 +252,11 @@ outcomes_command = subcommand (codes "outcomes") (image_rule ∷ config_rule ∷
     ∷ exists_rule ∷ forall_rule ∷ never_rule ∷ never_stuck_rule ∷ first_rule ∷ outcome_rule ∷ stuck_rule ∷ witness_rule
     ∷ written_script_rule ∷ written_story_rule ∷ story_svg_rule ∷ theme_rule ∷ all_rule ∷ lines_rule ∷ [])
 
--- `litmus TEST`, with `--config FILE`, `--states N`, `--image FILE`, `--why` and `--svg FILE`.
+-- `litmus TEST..`, with `--config FILE`, `--states N`, `--image FILE`, `--why`, `--svg FILE`, `--summary` and
+-- `--expect FILE`.
 abbrev pub litmus_command : App
 litmus_command = subcommand (codes "litmus") (test_rule ∷ config_rule ∷ states_rule ∷ written_image_rule
-    ∷ why_rule ∷ svg_rule ∷ [])
+    ∷ why_rule ∷ svg_rule ∷ summary_rule ∷ expect_rule ∷ [])
 
 -- `migrate TRACE OUT`, with `--config FILE`.
 abbrev pub migrate_command : App

@@ -4,12 +4,13 @@ use Rattle.clap.specs.Words.{App, Rule, Text, new_app, with_rule, with_subcomman
 use Rattle.sim_inputs.specs.{declared.arguments.Argument.Argument, declared.arguments.Kind.Kind}
 use Rattle.sim_inputs.specs.{declared.description.Subcommand.Subcommand}
 use Rattle.sim_inputs.specs.declared.arguments.Kind.TheVariants as kind
-use Rattle.sim_inputs.specs.Rules.{file_rule, optional_file_rule, file_option_rule, flag_rule}
+use Rattle.sim_inputs.specs.Rules.{file_rule, files_rule, optional_file_rule, file_option_rule, flag_rule}
 use Rattle.sim_inputs.specs.Rules.{hints_rule, number_option_rule, text_option_rule}
 
 -- The argument of a row.
 abbrev pub rule_by : Kind → Text → Rule
 rule_by kind.File name = file_rule name
+rule_by kind.Files name = files_rule name
 rule_by kind.OptionalFile name = optional_file_rule name
 rule_by kind.Option name = file_option_rule name
 rule_by kind.Folder name = file_option_rule name

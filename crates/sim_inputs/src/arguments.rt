@@ -4,6 +4,8 @@
 pub(crate) enum Kind {
     /// The name of a file, which must be there.
     File,
+    /// The names of files, of which one must be there.
+    Files,
     /// The name of a file, which may be there.
     OptionalFile,
     /// `--name FILE`, which may be there.
@@ -317,9 +319,21 @@ pub(crate) const WRITTEN_STORY: Argument = Argument {
 };
 
 pub(crate) const TEST: Argument = Argument {
-    kind: Kind::File,
+    kind: Kind::Files,
     name: "TEST",
-    help: "The litmus test, in herd's RISC-V format",
+    help: "A litmus test, a folder of them, or a list: @FILE",
+};
+
+pub(crate) const SUMMARY: Argument = Argument {
+    kind: Kind::Flag,
+    name: "summary",
+    help: "Print a line a test, in place of its states",
+};
+
+pub(crate) const EXPECT: Argument = Argument {
+    kind: Kind::Option,
+    name: "expect",
+    help: "A summary: print what is otherwise now",
 };
 
 pub(crate) const WRITTEN_IMAGE: Argument = Argument {

@@ -6,12 +6,12 @@ ghost use Rattle.sim_inputs.specs.Rules.{image_commands, report_commands, smtsim
 ghost use Rattle.sim_inputs.specs.Table.{own_arguments_in, rule_in, subcommand_in, with_row};
 
 use crate::arguments::{
-    ALL, Argument, CONFIG, COUNTS, EXISTS, EXPLAINED_ORDER, EXPLAINED_SCRIPT, EXPLAINED_TRACE,
-    FIRST, FORALL, FROM, HART, HARTS, HARTS_BESIDE_TRACE, HINTS, IMAGE, JSON, KANATA, KEEP, Kind,
-    LINES, LOOKS, NAMES, NEVER, NEVER_STUCK, ORDER, ORDER_OR_ROUNDS, OUTCOME, RECORDS, ROUNDS,
-    SCRIPT, SEED, SHOW, STATES, STEPS, STORY, STORY_SVG, STUCK, SVG, SVG_OF_WHY, TEST, THEME,
-    TIMES, TO, TRACE, WATCH, WHY, WHY_ENDS, WHY_NEVER, WHY_REFUSED, WIDTH, WITNESS, WRITTEN_IMAGE,
-    WRITTEN_OUT, WRITTEN_SCRIPT, WRITTEN_STORY, WRITTEN_TRACE,
+    ALL, Argument, CONFIG, COUNTS, EXISTS, EXPECT, EXPLAINED_ORDER, EXPLAINED_SCRIPT,
+    EXPLAINED_TRACE, FIRST, FORALL, FROM, HART, HARTS, HARTS_BESIDE_TRACE, HINTS, IMAGE, JSON,
+    KANATA, KEEP, Kind, LINES, LOOKS, NAMES, NEVER, NEVER_STUCK, ORDER, ORDER_OR_ROUNDS, OUTCOME,
+    RECORDS, ROUNDS, SCRIPT, SEED, SHOW, STATES, STEPS, STORY, STORY_SVG, STUCK, SUMMARY, SVG,
+    SVG_OF_WHY, TEST, THEME, TIMES, TO, TRACE, WATCH, WHY, WHY_ENDS, WHY_NEVER, WHY_REFUSED, WIDTH,
+    WITNESS, WRITTEN_IMAGE, WRITTEN_OUT, WRITTEN_SCRIPT, WRITTEN_STORY, WRITTEN_TRACE,
 };
 use crate::forms::{
     CHART_FORM, CONFIGURATION_FORM, LITMUS_FORM, MIGRATE_FORM, ORDER_FORM, OUTCOMES_FORM,
@@ -203,7 +203,16 @@ static OF_OTHERS: [Subcommand; 2] = [
     Subcommand {
         name: "litmus",
         about: "List every final state of a litmus test, as herd does",
-        arguments: &[TEST, CONFIG, STATES, WRITTEN_IMAGE, WHY_NEVER, SVG_OF_WHY],
+        arguments: &[
+            TEST,
+            CONFIG,
+            STATES,
+            WRITTEN_IMAGE,
+            WHY_NEVER,
+            SVG_OF_WHY,
+            SUMMARY,
+            EXPECT,
+        ],
         form: LITMUS_FORM,
     },
     Subcommand {
@@ -295,6 +304,7 @@ fn argument_of<'a>(row: &'static Argument, alloc: Global) -> Arg<'a>
     let argument = Arg::new(alloc, row.name).help(row.help);
     match row.kind {
         Kind::File => argument.required(true),
+        Kind::Files => argument.required(true).action(ArgAction::Append),
         Kind::OptionalFile => argument,
         Kind::Option => argument.long(row.name).value_name("FILE"),
         Kind::Folder => argument.long(row.name).value_name("FOLDER"),

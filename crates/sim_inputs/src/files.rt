@@ -16,7 +16,7 @@ pub struct Files<'a> {
     pub config: Option<&'a str>,
     /// The program that the harts run: its image, or the litmus test that it is made of.
     pub program: Option<&'a str>,
-    /// The script, the trace that is read, or the order.
+    /// The script, the trace that is read, the order, or the summary that is expected.
     pub second: Option<&'a str>,
     /// The source lines of the image.
     pub lines: Option<&'a str>,
@@ -187,7 +187,7 @@ impl<'a> Line<'a> {
         let (program, second, written) = match self.command {
             Command::OfProgram(command) => return command.files_with(self.config),
             Command::Explain(explain) => (Some(explain.image), explain.second(), None),
-            Command::Litmus(litmus) => (Some(litmus.test), None, litmus.written()),
+            Command::Litmus(litmus) => (Some(litmus.test), litmus.expect, litmus.written()),
             Command::Migrate(migrate) => (None, Some(migrate.trace), Some(migrate.out)),
         };
         Files {

@@ -18,6 +18,7 @@ use crate::line::{
     OutcomesCommand, PlainCommand, QuestionText, RunCommand, ScheduleCommand, ScriptCommand,
     StepCommand,
 };
+use crate::several_tests::{are_several, is_told_alone, is_written_alone, names_input};
 use crate::themes::{can_be_themed, theme_in};
 use clap::ArgMatches;
 use numbers::sizes::{MOST_EVENTS, MOST_HARTS};
@@ -404,18 +405,28 @@ pub(crate) fn litmus_in<'a>(found: &ArgMatches<'a>) -> Option<LitmusCommand<'a>>
         why: is_set(found, "why"),
         image: value_of(found, "image"),
         svg: value_of(found, "svg"),
+        summary: is_set(found, "summary"),
+        expect: value_of(found, "expect"),
+        several: are_several(found),
     };
     if !can_be_tested(&litmus) {
+        return None;
+    }
+    if litmus.several && names_input(found) {
         return None;
     }
     Some(litmus)
 }
 
-/// Whether some state is looked at, and one file at most is written.
+/// Whether some state is looked at, one file at most is written, and that of one test alone; and what stands in
+/// place of the states is alone too.
 fn can_be_tested(litmus: &LitmusCommand<'_>) -> bool
     ensures { result ≡ can_be_tested litmus.now }
 {
-    litmus.states >= 1 && !(litmus.image.is_some() && litmus.svg.is_some())
+    litmus.states >= 1
+        && !(litmus.image.is_some() && litmus.svg.is_some())
+        && is_written_alone(litmus)
+        && is_told_alone(litmus)
 }
 
 pub(crate) fn migrate_in<'a>(found: &ArgMatches<'a>) -> Option<MigrateCommand<'a>>

@@ -3,7 +3,7 @@
 //!
 //! Read in this order: `line` (what the words may ask for), `hart_count` (how many harts there are), `hints_wanted`
 //! (when hints are told), `files` (the files that they name), `words` (how they are read), `found_commands` (what was
-//! found for each command), `found_values` (what for one option), `chart_ends` (where a chart begins and ends), `themes` (a picture's
+//! found for each command), `found_values` (what for one option), `several_tests` (litmus tests of which there are several), `chart_ends` (where a chart begins and ends), `themes` (a picture's
 //! colours),
 //! `clap_errors` (what is made of an error of `clap`), `refused_words`, `refused_options` and
 //! `refused_together` (why words are refused, for a person), `description` (the command line as it is described to
@@ -32,6 +32,7 @@ mod refused_together;
 mod refused_words;
 mod roles;
 mod settings;
+mod several_tests;
 mod themes;
 mod version;
 mod words;
@@ -50,4 +51,5 @@ pub use line::{
 };
 pub use refused_words::add_refused_words;
 pub use settings::Settings;
+pub use several_tests::{names_list, tests_asked};
 pub use words::read_words;

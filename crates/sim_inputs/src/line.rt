@@ -284,7 +284,7 @@ pub enum QuestionText<'a> {
 /// `litmus TEST`: every final state of a litmus test is listed, and whether they are as it asks.
 #[derive(Clone, Copy, Drop)]
 pub struct LitmusCommand<'a> {
-    /// The file of the test.
+    /// The file of the test; of several that are named, the first.
     pub test: &'a str,
     /// `--states N`: how many states are looked at the most, 1 to `MOST_STATES`.
     pub states: u32,
@@ -295,6 +295,12 @@ pub struct LitmusCommand<'a> {
     /// `--svg FILE`: the file that a picture is written to, of why the condition holds of none. There is
     /// one of the two at most.
     pub svg: Option<&'a str>,
+    /// `--summary`: a line a test is printed in place of its states.
+    pub summary: bool,
+    /// `--expect FILE`: the file of a summary, with which that of the tests is compared.
+    pub expect: Option<&'a str>,
+    /// Whether more tests are named than `test`, or that is a list (`several_tests`).
+    pub several: bool,
 }
 
 /// `migrate TRACE OUT`: the trace of version 3 that has the events of an older one is written.

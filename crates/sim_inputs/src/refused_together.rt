@@ -1,5 +1,6 @@
 //! Which options of a command don't go together, and what may stand in their place.
 
+use crate::several_tests::{are_several, names_input};
 use clap::ArgMatches;
 
 /// Options that don't go together, as they stand in a command line, and what may stand there.
@@ -16,6 +17,9 @@ const fn refused(words: &'static str, expected: &'static str) -> Option<RefusedO
 /// What may stand in place of two options of which each excludes the other.
 const ONE_OF_THEM: &str = "one of them at most";
 
+/// What may stand beside an option that has a file of one test written.
+const ONE_TEST: &str = "one test beside it, and no list";
+
 /// The first options of a command that don't go together, if there are some.
 pub(crate) fn refused_together(command: &str, found: &ArgMatches<'_>) -> Option<RefusedOptions> {
     match command {
@@ -28,6 +32,7 @@ pub(crate) fn refused_together(command: &str, found: &ArgMatches<'_>) -> Option<
         "litmus" if has(found, "image") && has(found, "svg") => {
             refused("--image --svg", ONE_OF_THEM)
         }
+        "litmus" => refused_of_tests(found),
         "outcomes" => refused_of_outcomes(found),
         _ => None,
     }
@@ -39,6 +44,31 @@ fn has(found: &ArgMatches<'_>, name: &str) -> bool {
         Some(value) => value != "false",
         None => false,
     }
+}
+
+/// A file that is written beside several tests, two things in place of the states, and standard input among several.
+fn refused_of_tests(found: &ArgMatches<'_>) -> Option<RefusedOptions> {
+    let (summary, expect) = (has(found, "summary"), has(found, "expect"));
+    if summary && expect {
+        return refused("--summary --expect", ONE_OF_THEM);
+    }
+    let is_several = are_several(found);
+    let words = match (has(found, "image"), has(found, "svg"), has(found, "why")) {
+        (true, _, _) if is_several => return refused("--image", ONE_TEST),
+        (_, true, _) if is_several => return refused("--svg", ONE_TEST),
+        (true, _, _) if summary => "--image --summary",
+        (true, _, _) if expect => "--image --expect",
+        (_, true, _) if summary => "--svg --summary",
+        (_, true, _) if expect => "--svg --expect",
+        (_, _, true) if summary => "--why --summary",
+        (_, _, true) if expect => "--why --expect",
+        _ if is_several && names_input(found) => return refused(
+            "-",
+            "the names of files, where there are several",
+        ),
+        _ => return None,
+    };
+    refused(words, ONE_OF_THEM)
 }
 
 fn refused_of_runs(found: &ArgMatches<'_>) -> Option<RefusedOptions> {

@@ -61,8 +61,8 @@ F actor hart number pc word predicted|T actor number value next address data out
     ),
     (
         "smtsim litmus --help",
-        "Usage: smtsim litmus [OPTIONS] <TEST>|--config <FILE>|--states <N>|--image <FILE>|--why|\
---svg <FILE>|herd's RISC-V format",
+        "Usage: smtsim litmus [OPTIONS] <TEST>...|--config <FILE>|--states <N>|--image <FILE>|--why|\
+--svg <FILE>|--summary|--expect <FILE>|herd's RISC-V format",
     ),
     (
         "smtsim list --help",

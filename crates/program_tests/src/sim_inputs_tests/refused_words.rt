@@ -139,7 +139,15 @@ smtsim outcomes --exists x=1 --story-svg - a
 smtsim outcomes --exists x=1 --story s --theme light a
 smtsim outcomes --exists x=1 --story-svg p --theme black a
 smtsim litmus
-smtsim litmus a b
+smtsim litmus a b --image i
+smtsim litmus @a --svg s
+smtsim litmus a --summary --image i
+smtsim litmus a --expect e --svg s
+smtsim litmus a --summary --expect e
+smtsim litmus a b --why --summary
+smtsim litmus a --why --expect e
+smtsim litmus a -
+smtsim litmus - --expect -
 smtsim litmus --states 0 a
 smtsim litmus --states 4294967296 a
 smtsim litmus --image i --svg s a
@@ -184,6 +192,6 @@ fn other_words_are_refused(rt: HostRuntime) {
         holds(&rt, text, are_refused(text, rt.alloc()) == Ok(true));
         rows = rows.wrapping_add(1);
     }
-    assert!(rt; rows == 160);
+    assert!(rt; rows == 168);
     assert!(rt; is_refusal(read_words(&[], rt.alloc())));
 }

@@ -30,6 +30,7 @@ returns-in-Ok-write_incomplete g c =
     (λ first. (found.asked first).2) c.in-Beyond.is in
     record {
       refused = tt;
+      unprinted = tt;
       ended = more_told c.args.test.now c.args.command.now c.in-Ok.image c.watch_of-watch.result c.harts_of.result
           c.harts_of.ensures
           (record { is_image = c.in-Ok.ensures; registers = watched.registers; words = watched.words })

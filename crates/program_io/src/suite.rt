@@ -1,0 +1,134 @@
+//! A line that names several litmus tests, or asks for what they come to in lines.
+
+ghost use Rattle.std.specs.Prelude.{◌≡◌, ◌⊎◌, IfSome, Option};
+ghost use Rattle.sim_inputs.specs.declared.line.Command.TheVariants.{Litmus};
+ghost use Rattle.plain_commands.specs.Suite.{IsKnown};
+ghost use Rattle.commands.specs.declared.suites.SuiteRefused.{SuiteRefused as AnyRefused};
+ghost use Rattle.program_io.specs.Performed.{HasPerformed, HasTested, IsRefusedSuite, read_of};
+
+use crate::noting::Noting;
+use crate::output_files::{OutputFiles, Places};
+use crate::performing::Program;
+use crate::read_files::ReadFiles;
+use crate::read_inputs::ReadInputs;
+use crate::test_files::TestFiles;
+use crate::test_names::is_folder;
+use actors::Gate;
+use command_parts::{Context, Refused, refuse};
+use commands::perform_suite_line;
+use sim_inputs::{Command, Line, LitmusCommand, tests_asked};
+use smt_core::Predict;
+use std::alloc::AllocError;
+use std::io::Write;
+use std::rt::Files;
+use std::sync::Wait;
+use std::thread::Threads;
+
+impl<S: Files + Input + Threads + Wait + Sync, G: Gate + Sync, P: Predict + Copy + Send> Program<
+    '_,
+    S,
+    G,
+    P,
+> {
+    /// Reads the files that a line names, which these words ask for, and performs its command.
+    pub(crate) fn perform_asked<W: Write, E: Write>(
+        &self,
+        line: &Line<'_>,
+        words: &[&str],
+        out: &mut Noting<W>,
+        err: &mut E,
+    ) -> u8
+        ensures known { IsKnown result }
+        ensures performed { HasPerformed self.now.at_terminal line.now result ⊎ HasTested line.now result }
+    {
+        match suite_of(line, self.system) {
+            Some(litmus) => self.read_and_test(line, litmus, words, out, err),
+            None => self.read_and_perform(line, out, err),
+        }
+    }
+
+    /// Reads the configuration and the summary that a line of several tests names, and makes its tests.
+    fn read_and_test<W: Write, E: Write>(
+        &self,
+        line: &Line<'_>,
+        litmus: LitmusCommand<'_>,
+        words: &[&str],
+        out: &mut Noting<W>,
+        err: &mut E,
+    ) -> u8
+        requires { line.now.command ≡ Litmus litmus }
+        ensures { HasTested line.now result }
+    {
+        let tests = match tests_asked(words, self.alloc) {
+            Ok(tests) => tests,
+            Err(AllocError) => return refuse(Refused::Memory, err),
+        };
+        let mut files = line.files();
+        files.program = None;
+        let read = ReadInputs::of(self.system, &files, self.alloc);
+        let places = Places {
+            file: None,
+            folder: None,
+            read: ReadFiles::of(&files),
+        };
+        let mut context = Context {
+            rt: self.system,
+            gate: self.gate,
+            predict: self.predict,
+            files: OutputFiles::new(self.system, places),
+            out,
+            refused: None,
+            alloc: self.alloc,
+        };
+        let is_alone = !litmus.several && !is_folder(self.system, litmus.test);
+        let mut source = TestFiles::new(
+            self.system,
+            line,
+            litmus,
+            tests.as_slice(),
+            is_alone,
+            self.hinting(),
+            err,
+        );
+        self.test_and_hint(&litmus, &read, &mut context, &mut source)
+    }
+
+    /// Makes the tests of a line whose other files are read, with the hint of a fault of the line behind it.
+    fn test_and_hint<W: Write, E: Write>(
+        &self,
+        litmus: &LitmusCommand<'_>,
+        read: &ReadInputs,
+        context: &mut Context<'_, S, G, P, OutputFiles<'_, S>, &mut Noting<W>>,
+        source: &mut TestFiles<'_, S, E>,
+    ) -> u8
+        ensures known { IsKnown result }
+        ensures refused { (why : Option AnyRefused) × IsRefusedSuite litmus.now (read_of read.now.config)
+            (read_of read.now.second) result why }
+    {
+        let inputs = read.lent();
+        match perform_suite_line(context, litmus, &inputs, source) {
+            Ok(status) => status,
+            Err(refused) => {
+                let files = read.faults_with(context.files.fault(), context.out.failure());
+                source.refuse_line(refused, inputs, files)
+            }
+        }
+    }
+}
+
+/// The command of a line whose tests are several, by its words or since the one is a folder; or which asks for lines in
+/// place of states. A file is written of one test, which is read as it stands.
+fn suite_of<'a, S: Files>(line: &Line<'a>, system: &S) -> Option<LitmusCommand<'a>>
+    ensures { IfSome result (λ litmus. line.now.command ≡ Litmus litmus) }
+{
+    let Command::Litmus(litmus) = line.command else {
+        return None;
+    };
+    if litmus.several || litmus.is_summed() {
+        return Some(litmus);
+    }
+    if litmus.written().is_none() && is_folder(system, litmus.test) {
+        return Some(litmus);
+    }
+    None
+}
