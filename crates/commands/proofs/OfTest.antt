@@ -27,7 +27,7 @@ no_file None text settings litmus (inr is) = elim is.3 [
   | inl states ↦ states
   | inr order ↦ elim order.holds [
     | inl lacks ↦ lacks
-    | inr written ↦ neither written
+    | inr written ↦ neither written.1
   ]
 ]
 no_file (Some times) text settings litmus (inl is) = is
