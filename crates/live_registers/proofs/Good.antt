@@ -16,9 +16,11 @@ use Rattle.rv_instr.proofs.DecodedLemmas.{op_rs1_below, op_rs2_below}
 use Rattle.decoded_code.specs.Code.{IsCodeOf, IsFound, found_at}
 use Rattle.decoded_code.proofs.Fetching.{found}
 use Rattle.decoded_code.specs.declared.code.{Code.Code, Fetched.Fetched}
-use Rattle.outcome_laws.specs.Live.{op_at, reads_register, may_follow, IsLiveTable}
+use Rattle.outcome_laws.specs.Tables.{op_at, reads_register, may_follow, IsLiveTable}
+use Rattle.outcome_laws.proofs.Fitting.{follows_where_it_goes}
 use Rattle.live_registers.specs.declared.table.{LiveTable.LiveTable, Row.Row}
-use Rattle.live_registers.specs.Table.{all_alike, row_at, live_in, live_of, IsOfCode, IsGoodRow, AreGoodBelow}
+use Rattle.live_registers.specs.Table.{all_alike, row_at, live_in, live_of, IsLiveTableOf, IsOfCode}
+use Rattle.live_registers.specs.Table.{IsGoodRow, AreGoodBelow}
 
 -- ---- Where there is no word
 
@@ -164,30 +166,32 @@ module _ (image : ProgramImage) (code : Code) (table : LiveTable) (fixed : code_
             (both.1.good.stays to r (positive r some) below follows lives other)
       ]
 
-  good_table : IsLiveTable image (live_of table)
+  good_table : IsLiveTableOf image table
   good_table = record {
     reads = λ pc r some reads.
         let it = finds pc in
         reads_at pc r some it (subst (λ o. reads_register o r ≡ true) it.is_so reads);
-    stays = λ pc to r some follows lives other.
+    stays = λ pc to r some goes lives other.
         let it = finds pc in
+        let follows : may_follow (op_at image pc) pc to ≡ true =
+        follows_where_it_goes (λ at. code_writable image) (λ at next. true) (op_at image pc) pc to fixed goes in
         stays_at pc to r some it (subst (λ o. may_follow o pc to ≡ true) it.is_so follows) lives
         (subst (λ o. (r == destination o) ≡ false) it.is_so other);
-    all = λ written pc r some. absurd (grind (arith, fixed, written));
+    all = λ pc r some written. absurd (grind (arith, fixed, written));
   }
 
 pub good : (image : ProgramImage) (code : Code) (table : LiveTable) → code_writable image ≡ false
     → IsCodeOf image (byte_in image) code → IsOfCode code table
-    → AreGoodBelow (length code.words.items) table code → IsLiveTable image (live_of table)
+    → AreGoodBelow (length code.words.items) table code → IsLiveTableOf image table
 good image code table fixed is of_code are = good_table image code table fixed is of_code are
 
 -- Where every register is live, none is missing.
-pub everywhere_good : (image : ProgramImage) (live : ℕ → ℕ → Bool) → ((pc r : ℕ) → live pc r ≡ true)
-    → IsLiveTable image live
-everywhere_good image live all = record {
+pub everywhere_good : (image : ProgramImage) (changes : ℕ → Bool) (targets live : ℕ → ℕ → Bool)
+    → ((pc r : ℕ) → live pc r ≡ true) → IsLiveTable image changes targets live
+everywhere_good image changes targets live all = record {
   reads = λ pc r some reads. all pc r;
   stays = λ pc to r some follows lives other. all pc r;
-  all = λ written pc r some. all pc r;
+  all = λ pc r some changed. all pc r;
 }
 
 -- ---- Every register live everywhere
@@ -233,6 +237,6 @@ full_below code table of_code full index below =
 
 pub full_good : (image : ProgramImage) (code : Code) (table : LiveTable) → code_writable image ≡ false
     → IsCodeOf image (byte_in image) code → IsOfCode code table
-    → All (λ (row : Row). row.live ≡ all_alike true) table.rows.items → IsLiveTable image (live_of table)
+    → All (λ (row : Row). row.live ≡ all_alike true) table.rows.items → IsLiveTableOf image table
 full_good image code table fixed is of_code full =
     good image code table fixed is of_code (full_below code table of_code full)

@@ -4,7 +4,8 @@ use Rattle.std.specs.Prelude.{List, length, replicate, Option, Some, None}
 use Rattle.std.specs.{List.slice_get, List.slice_index_or, Option.option_map_or}
 use Rattle.rv_instr.specs.{declared.op.Op.Op, Kinds.destination}
 use Rattle.decoded_code.specs.declared.code.{Code.Code, Fetched.Fetched}
-use Rattle.outcome_laws.specs.Live.{reads_register, may_follow}
+use Rattle.elf_image.specs.Image.{ProgramImage, code_writable}
+use Rattle.outcome_laws.specs.Tables.{reads_register, may_follow, IsLiveTable}
 use Rattle.live_registers.specs.declared.table.LiveTable.{LiveTable}
 use Rattle.live_registers.specs.declared.table.Row.{Row}
 
@@ -25,6 +26,12 @@ live_in r row = nat_lt r 32 && option_map_or (λ (it : Row). slice_index_or it.l
 
 abbrev pub live_of : LiveTable → ℕ → ℕ → Bool
 live_of table pc r = table.everywhere || live_in r (row_at table pc)
+
+-- The table is good for an image: JALR may go anywhere, and where the code may be written any word of it may
+-- change.
+abbrev pub IsLiveTableOf : ProgramImage → LiveTable → Type 0
+IsLiveTableOf image table =
+    IsLiveTable image (λ pc. code_writable image) (λ pc to. true) (live_of table)
 
 -- The table goes by its rows, and has one for each word of the code.
 pub record IsOfCode (code : Code) (table : LiveTable) : Type 0 where

@@ -2,7 +2,7 @@
 
 ghost use Rattle.std.specs.Prelude.{◌≡◌, ◌<◌, ◌+◌, ◌*◌, ℕ, true, false, ◌==◌, length, IfSome};
 ghost use Rattle.rv_instr.specs.Kinds.{destination};
-ghost use Rattle.outcome_laws.specs.Live.{reads_register, may_follow};
+ghost use Rattle.outcome_laws.specs.Tables.{reads_register, may_follow};
 ghost use Rattle.live_registers.specs.Onward.{goes_on_at};
 ghost use Rattle.live_registers.specs.Table.{live_of, IsGoodRow, IsGoodAt, AreGoodBelow};
 

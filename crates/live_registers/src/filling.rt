@@ -4,8 +4,7 @@
 ghost use Rattle.std.specs.Prelude.{◌≡◌, ◌<◌, IfOk, All, length, false};
 ghost use Rattle.elf_image.specs.Image.{ProgramImage, byte_in, code_writable};
 ghost use Rattle.decoded_code.specs.Code.{IsCodeOf};
-ghost use Rattle.outcome_laws.specs.Live.{IsLiveTable};
-ghost use Rattle.live_registers.specs.Table.{live_of, IsOfCode, all_alike};
+ghost use Rattle.live_registers.specs.Table.{IsLiveTableOf, IsOfCode, all_alike};
 
 use crate::checking::{is_good, is_needed};
 use crate::table::{LiveTable, REGISTERS, Row};
@@ -23,7 +22,7 @@ impl LiveTable {
     /// as another word may come to any place. Fails only for want of memory.
     pub fn of(image: &Image, code: &Code, alloc: Global) -> Result<LiveTable, AllocError>
         requires { IsCodeOf image.now (byte_in image.now) code.now }
-        ensures { IfOk result (λ table. IsLiveTable image.now (live_of table)) }
+        ensures { IfOk result (IsLiveTableOf image.now) }
     {
         if image.code_writable() {
             return Ok(LiveTable::everywhere(alloc));
@@ -33,7 +32,7 @@ impl LiveTable {
 
     /// The table in which every register is live everywhere. It has no rows.
     fn everywhere(alloc: Global) -> LiveTable
-        ensures { (image : ProgramImage) → IsLiveTable image (live_of result) }
+        ensures { (image : ProgramImage) → IsLiveTableOf image result }
     {
         LiveTable {
             everywhere: true,
@@ -46,7 +45,7 @@ impl LiveTable {
     fn of_words(code: &Code, alloc: Global) -> Result<LiveTable, AllocError>
         ensures of_code { IfOk result (IsOfCode code.now) }
         ensures good { IfOk result (λ table. (image : ProgramImage) → code_writable image ≡ false
-            → IsCodeOf image (byte_in image) code.now → IsLiveTable image (live_of table)) }
+            → IsCodeOf image (byte_in image) code.now → IsLiveTableOf image table) }
     {
         let table = LiveTable::found(code, alloc)?;
         if is_good(&table, code) {
@@ -72,7 +71,7 @@ impl LiveTable {
     fn full(code: &Code, alloc: Global) -> Result<LiveTable, AllocError>
         ensures of_code { IfOk result (IsOfCode code.now) }
         ensures good { IfOk result (λ table. (image : ProgramImage) → code_writable image ≡ false
-            → IsCodeOf image (byte_in image) code.now → IsLiveTable image (live_of table)) }
+            → IsCodeOf image (byte_in image) code.now → IsLiveTableOf image table) }
     {
         LiveTable::filled(code, true, alloc)
     }
