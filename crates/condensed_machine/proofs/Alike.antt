@@ -9,7 +9,7 @@ use Rattle.outcome_laws.specs.Live.{AreAlike, matters}
 use Rattle.live_registers.specs.Table.{live_of}
 use Rattle.sc_machine.specs.{Harts.HartAgrees, declared.hart.Hart.Hart}
 use Rattle.condensed_machine.specs.{Settling.HartsStay, Resting.IsRested, Resting.is_watched, Resting.is_kept}
-use Rattle.condensed_machine.specs.{Machine.Program, Decoded.Decoded, Decoded.full, Decoded.hart_at}
+use Rattle.condensed_machine.specs.{Machine.Program, Machine.tables_of, Decoded.Decoded, Decoded.full, Decoded.hart_at}
 use Rattle.condensed_machine.specs.{Decoded.register_of, Decoded.pc_of, Decoded.status_of}
 use Rattle.condensed_machine.specs.{Executing.SharedAgrees}
 use Rattle.condensed_machine.proofs.Instructions.{both, second_no}
@@ -23,11 +23,11 @@ pub record IsKeptAs (p : Program) (s : Plain) (h : ℕ) (y : Hart) : Type 0 wher
 
 pub alike_by_harts : (p : Program) (s : Plain) (d : Decoded)
     → ((h : ℕ) → IsKeptAs p s h (hart_at d.harts h)) → SharedAgrees p.image s d.shared
-    → AreAlike (is_watched p.watched) (live_of p.live) s (full p d)
+    → AreAlike (is_watched p.watched) (tables_of p) s (full p d)
 alike_by_harts p s d kept shared = record {
   pcs = λ h. (kept h).pc;
   statuses = λ h. (kept h).status;
-  reserved = λ h. sym (shared.reserved h);
+  reserved = λ h matter. sym (shared.reserved h);
   bytes = λ a. sym (shared.bytes a);
   output = sym shared.output;
   registers = λ h r some matter. (kept h).registers r some matter;

@@ -7,15 +7,16 @@ use Rattle.std.proofs.lemmas.List.{get_or-set_other, get_or-set_same, length-set
 use Rattle.std.proofs.lemmas.Option.{get_or_from_slice_get, slice_get_within}
 use Rattle.smt_model.specs.{Setup.Setup, Plain.is_going_status}
 use Rattle.outcome_laws.specs.{Paths.can_step, Paths.stepped}
+use Rattle.outcome_laws.proofs.Fitting.{every_step_fits}
 use Rattle.sc_machine.specs.declared.hart.Hart.{Hart}
 use Rattle.changed_memory.specs.Shared.{Shared}
-use Rattle.condensed_machine.specs.Machine.{Program, IsSound, Machine, Grows, HasCode, InEachSetup}
+use Rattle.condensed_machine.specs.Machine.{Program, IsSound, tables_of, Machine, Grows, HasCode, InEachSetup}
 use Rattle.condensed_machine.specs.Decoded.{Decoded, decoded, full, hart_at, hart_in, no_shared, numbers_of}
-use Rattle.condensed_machine.specs.Decoded.{Knows}
+use Rattle.condensed_machine.specs.Decoded.{Knows, state_of}
 use Rattle.condensed_machine.specs.Executing.{IsExecuted, IsBehind, ComesToRest, InEachState, SharedAfter}
 use Rattle.condensed_machine.specs.{Tables.HasNumber, Tables.IsSharedAfter, Steps.SettlesBy, Steps.MakesStep}
 use Rattle.condensed_machine.specs.{declared.executed.Executed.Executed, declared.state.State.State}
-use Rattle.condensed_machine.proofs.Instructions.{can_go}
+use Rattle.condensed_machine.proofs.{Instructions.can_go, Instructions.allows_all}
 use Rattle.condensed_machine.proofs.Moving.{IsNext, settles_by, hart_is}
 use Rattle.condensed_machine.specs.Learning.{still_decoded, still_numbered, kept_within}
 use Rattle.condensed_machine.proofs.Numbers.{own_number, other_number}
@@ -98,7 +99,11 @@ module _ (m n : Machine) (s t : State) (h steps : ℕ) (sound : IsSound m.progra
       (harts ∙ ap (λ (p : Program). p.harts) grows.program) in
       let then = subst (λ p. Makes setup p (decoded n s)) (sym grows.program)
       (subst (λ d. Makes setup m.program d) (sym (still_decoded m n s grows knows)) now) in
-      record { can = then.0; leads = then.1 }
+      record {
+        can = then.0;
+        fits = every_step_fits setup (tables_of n.program) (allows_all n.program) h (state_of n s);
+        leads = then.1;
+      }
 
   pub known : Knows n t
   known = record {

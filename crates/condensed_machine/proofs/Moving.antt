@@ -10,14 +10,15 @@ use Rattle.outcome_laws.proofs.Holding.{has_next}
 use Rattle.sc_machine.specs.{Harts.HartAgrees, declared.hart.Hart.Hart}
 use Rattle.changed_memory.specs.Shared.{Shared}
 use Rattle.condensed_machine.specs.{Settling.HartsStay, Settling.OthersStay, Settling.GoesOn}
-use Rattle.condensed_machine.specs.{Machine.Program, Machine.IsSound, Machine.HasCode, Steps.SettlesBy}
+use Rattle.condensed_machine.specs.{Machine.Program, Machine.tables_of, Machine.IsSound, Machine.HasCode}
+use Rattle.condensed_machine.specs.{Steps.SettlesBy}
 use Rattle.condensed_machine.specs.Decoded.{Decoded, full, hart_at, register_of}
 use Rattle.condensed_machine.specs.Executing.{SharedAgrees, SharedAfter, IsExecuted, IsBehind, ComesToRest, InEachState}
 use Rattle.condensed_machine.specs.declared.executed.Executed.{Executed}
 use Rattle.condensed_machine.proofs.Coded.{code_in}
 use Rattle.condensed_machine.proofs.Alike.{IsKeptAs, alike_by_harts, register_in, full_beyond, still_beyond}
 use Rattle.condensed_machine.proofs.Alike.{rests_as, stays_as, full_as}
-use Rattle.condensed_machine.proofs.Instructions.{after_same, harts_after, written_below}
+use Rattle.condensed_machine.proofs.Instructions.{after_same, harts_after, written_below, allows_all}
 
 inside_test : (h harts : ℕ) → h < harts → nat_lt h harts ≡ true
 inside_test h harts inside = grind (arith, nat_tests)
@@ -93,9 +94,9 @@ module _ (p : Program) (d e : Decoded) (h steps : ℕ) (done : Executed) (y : Ha
   holds : HasItsCode setup behind
   holds = has_next setup h (full p d) (code_in setup p.image (full p d) d.shared image (shared_is p d) code)
 
-  goes : GoesOn setup h steps behind next.rests.moved
+  goes : GoesOn setup (tables_of p) h steps behind next.rests.moved
   goes =
-      next.rests.settles.leads setup h behind image there holds
+      next.rests.settles.leads setup (tables_of p) h behind (allows_all p) image there holds
       (next.is_behind setup (full p d) image there (hart_is p d h inside zero) (shared_is p d))
 
   shared : SharedAgrees p.image goes.there e.shared

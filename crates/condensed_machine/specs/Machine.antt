@@ -4,7 +4,7 @@ use Rattle.numbers.specs.Sizes.{most_harts}
 use Rattle.elf_image.specs.Image.{ProgramImage, code_writable}
 use Rattle.smt_model.specs.{Setup.Setup}
 use Rattle.smt_laws.specs.Code.{HoldsItsCode}
-use Rattle.outcome_laws.specs.Live.{IsLiveTable}
+use Rattle.outcome_laws.specs.Tables.{Tables, IsTables, with_live_alone}
 use Rattle.live_registers.specs.Table.{live_of}
 use Rattle.live_registers.specs.declared.table.LiveTable.{LiveTable}
 use Rattle.sc_machine.specs.declared.hart.Hart.{Hart}
@@ -18,13 +18,16 @@ pub record Program : Type 0 where
   pub watched : List Bool
   pub live : LiveTable
 
--- There are harts, and no more than there may be; each register is watched or isn't; the table of live
--- registers is good.
+-- What is known ahead of each step: which registers are live. All else is as in any program.
+abbrev pub tables_of : Program → Tables
+tables_of p = with_live_alone (live_of p.live)
+
+-- There are harts, and no more than there may be; each register is watched or isn't; the tables are good.
 pub record IsSound (p : Program) : Type 0 where
   pub some : 0 < p.harts
   pub few : p.harts ≤ most_harts
   pub registers : length p.watched ≡ 32
-  pub live : IsLiveTable p.image (live_of p.live)
+  pub tables : IsTables p.image (tables_of p)
 
 -- The program, and the harts and shared parts found so far, and the numbers of the harts behind the first ones of a
 -- state. The number of one is its place.
