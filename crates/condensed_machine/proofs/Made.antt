@@ -15,7 +15,8 @@ use Rattle.condensed_machine.specs.Decoded.{Decoded, decoded, full, hart_at, har
 use Rattle.condensed_machine.specs.Decoded.{Knows, state_of}
 use Rattle.condensed_machine.specs.Executing.{IsExecuted, IsBehind, ComesToRest, InEachState, SharedAfter}
 use Rattle.condensed_machine.specs.{Tables.HasNumber, Tables.IsSharedAfter, Steps.SettlesBy, Steps.MakesStep}
-use Rattle.condensed_machine.specs.{declared.executed.Executed.Executed, declared.state.State.State}
+use Rattle.condensed_machine.specs.{Resting.keeps_reservation, declared.executed.Executed.Executed}
+use Rattle.condensed_machine.specs.{declared.state.State.State}
 use Rattle.condensed_machine.proofs.{Instructions.can_go, Instructions.allows_all}
 use Rattle.condensed_machine.proofs.Moving.{IsNext, settles_by, hart_is}
 use Rattle.condensed_machine.specs.Learning.{still_decoded, still_numbered, kept_within}
@@ -37,7 +38,8 @@ pub record HasDone (m n : Machine) (s t : State) (h steps : ℕ) (x : Hart) (com
   pub has : HasNumber n.hart_states moved number
   pub numbered : numbers_of n t ≡ slice_set (numbers_of m s) h number
   pub far : t.far < length n.far_harts
-  pub shared : IsSharedAfter m.program.image h done common n.shared_states t.shared
+  pub shared : IsSharedAfter m.program.image h done (keeps_reservation m.program.live moved) common n.shared_states
+      t.shared
 
 abbrev pub HasMoved : Machine → Machine → State → State → ℕ → ℕ → Type 0
 HasMoved m n s t h steps = HasDone m n s t h steps (hart_in m s h) (decoded m s).shared
@@ -73,7 +75,8 @@ module _ (m n : Machine) (s t : State) (h steps : ℕ) (sound : IsSound m.progra
     rests = moved.rests;
     own = own;
     others = others;
-    shared = subst (λ (after : Shared). SharedAfter m.program.image h moved.done (decoded m s).shared after)
+    shared = subst (λ (after : Shared). SharedAfter m.program.image h moved.done
+        (keeps_reservation m.program.live moved.moved) (decoded m s).shared after)
         (sym (get_or_from_slice_get n.shared_states t.shared moved.shared.after no_shared moved.shared.has))
         moved.shared.is;
   }

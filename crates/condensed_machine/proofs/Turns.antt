@@ -163,7 +163,7 @@ module _ (p : Program) (table : List Hart) (ways numbers : List ℕ) (setup : Se
         there = end.there;
         local = end.local;
         alike = alike_by_harts p end.there d kept (record {
-          reserved = λ g. shared.reserved g ∙ sym (end.reserved g);
+          reserved = λ g matter. shared.reserved g ∙ sym (end.reserved g);
           bytes = λ a. shared.bytes a ∙ sym (end.bytes a);
           output = shared.output ∙ sym end.output;
         });
