@@ -1,5 +1,5 @@
 -- Lines of several litmus tests.
-use Rattle.std.specs.Prelude.{◌≡◌, ℕ, List, [], Option, Some, None, Ok}
+use Rattle.std.specs.Prelude.{◌≡◌, ◌⊎◌, ℕ, List, [], Option, Some, None, Ok}
 use Rattle.std.specs.Borrow.{Bor}
 use Rattle.std.proofs.Common.{refl, sym}
 use mathlib.Core.Logic.{inl, inr}
@@ -10,9 +10,9 @@ use Rattle.sim_inputs.specs.Files.{files_of}
 use Rattle.command_parts.specs.declared.refused.Refused.TheVariants.{Memory}
 use Rattle.command_parts.specs.{Inputs.Read, Refused.exit_status_of}
 use Rattle.plain_commands.specs.Suite.{IsKnown}
-use Rattle.commands.specs.declared.suites.SuiteRefused.{SuiteRefused}
 use Rattle.commands.specs.declared.suites.SuiteRefused.TheVariants as refused
-use Rattle.program_io.specs.Performed.{HasTested, IsReadAs, IsRefusedSuite}
+use Rattle.program_io.specs.declared.{performing.Program.Program, test_files.TestFiles.TestFiles}
+use Rattle.program_io.specs.Performed.{HasTested, IsReadAs, SuiteHasCome, SuiteIsRefused}
 
 -- A file may be read as an empty one, where nothing else is known of it.
 read_empty : (name : Option (Bor (List ℕ))) → IsReadAs name (Ok [])
@@ -20,9 +20,10 @@ read_empty None = refl
 read_empty (Some name) = tt
 
 -- There is no memory for the names of the tests.
-pub nameless : (line : Line) (litmus : LitmusCommand) (status : ℕ) → line.command ≡ Litmus litmus
-    → status ≡ exit_status_of Memory → HasTested line status
-nameless line litmus status is_litmus is = record {
+pub nameless : {S G P E : Type 0} (by : Program S G P) (told : E) (line : Line) (litmus : LitmusCommand)
+    (old new : Option (List ℕ)) (status : ℕ) → line.command ≡ Litmus litmus → status ≡ exit_status_of Memory
+    → HasTested by told line old new status
+nameless by told line litmus old new status is_litmus is = record {
   litmus = litmus;
   is_litmus = is_litmus;
   config = Ok [];
@@ -30,16 +31,17 @@ nameless line litmus status is_litmus is = record {
   has_config = read_empty (files_of line).config;
   has_summary = read_empty (files_of line).second;
   known = inr (inr (inr is));
-  why = Some (refused.Line Memory);
-  refused = (sym is, tt);
+  ended = inl (record { why = refused.Line Memory; has_status = sym is; refused = tt });
 }
 
 -- The tests were made, with these files.
-pub tested : (line : Line) (litmus : LitmusCommand) (status : ℕ) (config summary : Read)
+pub tested : {S G P E : Type 0} (by : Program S G P) (told : E) (line : Line) (litmus : LitmusCommand)
+    (old new : Option (List ℕ)) (status : ℕ) (config summary : Read) (source : TestFiles S E)
     → line.command ≡ Litmus litmus → IsReadAs (files_of line).config config
     → IsReadAs (files_of line).second summary → IsKnown status
-    → ((why : Option SuiteRefused) × IsRefusedSuite litmus config summary status why) → HasTested line status
-tested line litmus status config summary is_litmus has_config has_summary known ended = record {
+    → SuiteIsRefused litmus config summary status ⊎ SuiteHasCome source litmus config summary old new status
+    → HasTested by told line old new status
+tested by told line litmus old new status config summary source is_litmus has_config has_summary known ended = record {
   litmus = litmus;
   is_litmus = is_litmus;
   config = config;
@@ -47,6 +49,8 @@ tested line litmus status config summary is_litmus has_config has_summary known 
   has_config = has_config;
   has_summary = has_summary;
   known = known;
-  why = ended.0;
-  refused = ended.1;
+  ended = elim ended [
+    | inl why ↦ inl why
+    | inr comes ↦ inr (source, comes)
+  ];
 }
