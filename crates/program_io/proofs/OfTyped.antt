@@ -13,7 +13,7 @@ use Rattle.report_lines.specs.Statuses.{says_harts}
 use Rattle.command_parts.specs.declared.refused.Refused.{Refused}
 use Rattle.command_parts.specs.{Inputs.Read, Refused.exit_status_of}
 use Rattle.commands.specs.{Perform.IsRefusal}
-use Rattle.program_io.specs.declared.{performing.Program.Program, output_files.OutputFiles.OutputFiles}
+use Rattle.program_io.specs.declared.performing.Program.{Program}
 use Rattle.program_io.specs.Performed.{typed_step, IsReadAs, HasPerformed, LineHasCome, TypedHasCome, uncommented_for}
 
 typed_command : (at_terminal : Bool) (command : Command) (step : StepCommand)
@@ -45,17 +45,18 @@ some_same : (step other : StepCommand) → ◌≡◌ {A = Option StepCommand} (S
 some_same step other is = cc
 
 -- It is performed with its other files as they were read, and refused as an empty script is.
-pub typed_performed : {S G P : Type 0} (predicts : P → ℕ → ℕ → ℕ → ℕ → P → Type 0) (by : Program S G P) (line : Line)
-    (step : StepCommand) (old new : Option (List ℕ)) (status : ℕ) (files : OutputFiles S) (config image lines : Read)
+pub typed_performed : {F S G P : Type 0} (has_failed : F → Bool) (predicts : P → ℕ → ℕ → ℕ → ℕ → P → Type 0)
+    (by : Program S G P) (line : Line) (step : StepCommand) (old new : Option (List ℕ)) (status : ℕ) (files : F)
+    (config image lines : Read)
     → typed_step by.at_terminal line.command ≡ Some step
     → IsReadAs (files_of line).config config → IsReadAs (files_of line).program image
     → IsReadAs (files_of line).lines lines
     → (says_harts status ≡ false → (reason : Refused) × (exit_status_of reason ≡ status)
     × IsRefusal line.harts (commands.OfProgram (program.Step step)) config image (Ok []) lines reason)
     → (IsTrue (says_harts status)
-    → TypedHasCome predicts by.predict files line.harts step config image lines old new status)
-    → HasPerformed predicts by line old new status
-typed_performed predicts by line step old new status files config image lines typed has_config has_program has_lines
+    → TypedHasCome has_failed predicts by.predict files line.harts step config image lines old new status)
+    → HasPerformed has_failed predicts by line old new status
+typed_performed has_failed predicts by line step old new status files config image lines typed has_config has_program has_lines
     refused comes =
     record {
       config = config;
@@ -70,8 +71,8 @@ typed_performed predicts by line step old new status files config image lines ty
       comes = λ none says. absurd (some_is_none step (sym typed ∙ none));
       typed = λ other is says.
           let same = some_same step other (sym typed ∙ is) in
-          subst (λ s. TypedHasCome predicts by.predict files line.harts s config image lines old new status) same
-              (comes says);
+          subst (λ s. TypedHasCome has_failed predicts by.predict files line.harts s config image lines old new status)
+          same (comes says);
       refused = λ none.
           let why = refused none in
           let same = typed_command by.at_terminal line.command step typed in (
@@ -84,8 +85,8 @@ typed_performed predicts by line step old new status files config image lines ty
 
 -- Where no script is typed, a line is performed with all its files as they were read, a script or an order without
 -- its comments.
-pub read_performed : {S G P : Type 0} (predicts : P → ℕ → ℕ → ℕ → ℕ → P → Type 0) (by : Program S G P) (line : Line)
-    (typed : Option StepCommand) (old new : Option (List ℕ)) (status : ℕ) (files : OutputFiles S)
+pub read_performed : {F S G P : Type 0} (has_failed : F → Bool) (predicts : P → ℕ → ℕ → ℕ → ℕ → P → Type 0)
+    (by : Program S G P) (line : Line) (typed : Option StepCommand) (old new : Option (List ℕ)) (status : ℕ) (files : F)
     (config image second lines text : Read) → typed ≡ typed_step by.at_terminal line.command → typed ≡ None
     → IsReadAs (files_of line).config config → IsReadAs (files_of line).program image
     → IsReadAs (files_of line).second second → IsReadAs (files_of line).lines lines
@@ -93,9 +94,9 @@ pub read_performed : {S G P : Type 0} (predicts : P → ℕ → ℕ → ℕ → 
     → (says_harts status ≡ false → (reason : Refused) × (exit_status_of reason ≡ status)
     × IsRefusal line.harts line.command config image text lines reason)
     → (IsTrue (says_harts status)
-    → LineHasCome files line.harts line.command config image text lines old new status)
-    → HasPerformed predicts by line old new status
-read_performed predicts by line typed old new status files config image second lines text found none has_config
+    → LineHasCome has_failed files line.harts line.command config image text lines old new status)
+    → HasPerformed has_failed predicts by line old new status
+read_performed has_failed predicts by line typed old new status files config image second lines text found none has_config
     has_program has_second has_lines blanked refused comes =
     record {
       config = config;
@@ -108,8 +109,10 @@ read_performed predicts by line typed old new status files config image second l
       has_lines = has_lines;
       files = files;
       comes = λ read says.
-          subst (λ (r : Read). LineHasCome files line.harts line.command config image r lines old new status) blanked
-              (comes says);
+          subst
+          (λ (r : Read).
+          LineHasCome has_failed files line.harts line.command config image r lines old new status)
+          blanked (comes says);
       typed = λ step is says. absurd (some_is_none step (sym is ∙ sym found ∙ none));
       refused = λ harts.
           let why = refused harts in (

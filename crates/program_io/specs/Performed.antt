@@ -15,16 +15,13 @@ use Rattle.sim_inputs.specs.declared.line.StepCommand.{StepCommand}
 use Rattle.sim_inputs.specs.Files.{files_of, is_standard_input, reads_words}
 use Rattle.scripts.specs.Comments.{uncommented}
 use Rattle.report_lines.specs.Statuses.{says_harts}
-use Rattle.core_commands.specs.Wanted.{step_wants}
 use Rattle.command_parts.specs.{declared.refused.Refused.Refused}
 use Rattle.command_parts.specs.{Inputs.Read, Refused.exit_status_of}
 use Rattle.commands.specs.{Perform.IsRefusal}
 use Rattle.program_io.specs.{declared.files.ReadRefused.ReadRefused, Files.unread_for}
 use Rattle.program_io.specs.Words.{IsWordsStatus, HaveTold}
 use Rattle.program_io.specs.declared.performing.Program.{Program}
-use Rattle.program_io.specs.declared.output_files.OutputFiles.{OutputFiles}
-use Rattle.program_io.specs.declared.test_files.TestFiles.{TestFiles}
-use Rattle.commands.specs.{Perform.LineComesTo, Typed.TypedComesTo, Suites.SuiteLineComesTo}
+use Rattle.commands.specs.{Perform.LineComesTo, Typed.StepIsTyped, Suites.SuiteLineComesTo}
 use Rattle.commands.specs.Written.{ToWrite, TraceOf, IsWritten}
 
 -- A file as it was read, of the vector that holds its bytes.
@@ -53,32 +50,29 @@ uncommented_for command (Ok text) = Ok (if reads_words command then uncommented 
 uncommented_for command (Err why) = Err why
 
 -- What a line puts into its files: of what a file takes nothing is known, but that none failed.
-abbrev pub has_failed : {S : Type 0} → OutputFiles S → Bool
-has_failed files = is_some files.fault
-
-abbrev pub HasPutInto : {S : Type 0} → OutputFiles S → OutputFiles S → ToWrite → Type 0
-HasPutInto before after = IsWritten (λ sink end part later. Unit {0}) (λ sink. None) has_failed before after
+abbrev pub HasPutInto : {F : Type 0} → (F → Bool) → F → F → ToWrite → Type 0
+HasPutInto has_failed before after = IsWritten (λ files end part later. Unit {0}) (λ files. None) has_failed before after
 
 -- What was printed, and put into files that stood so before, is what the command comes to, of its files as they were read.
-pub record LineHasCome {S : Type 0} (before : OutputFiles S) (harts : Option ℕ) (command : Command)
+pub record LineHasCome {F : Type 0} (has_failed : F → Bool) (before : F) (harts : Option ℕ) (command : Command)
     (config program second lines : Read) (old new : Option (List ℕ)) (status : ℕ) : Type 0 where
-  pub after : OutputFiles S
-  pub comes : LineComesTo harts command config program second lines (HasPutInto before after) old new status
+  pub after : F
+  pub comes : LineComesTo harts command config program second lines (HasPutInto has_failed before after) old new status
 
 -- So it is of `step` whose script is typed: of what was typed, as far as it is known.
-pub record TypedHasCome {S P : Type 0} (predicts : P → ℕ → ℕ → ℕ → ℕ → P → Type 0) (predictor : P)
-    (before : OutputFiles S) (harts : Option ℕ) (step : StepCommand) (config program lines : Read)
-    (old new : Option (List ℕ)) (status : ℕ) : Type 0 where
+pub record TypedHasCome {F P : Type 0} (has_failed : F → Bool) (predicts : P → ℕ → ℕ → ℕ → ℕ → P → Type 0) (predictor : P)
+    (before : F) (harts : Option ℕ) (step : StepCommand) (config program lines : Read) (old new : Option (List ℕ))
+    (status : ℕ) : Type 0 where
   pub input : Option (List ℕ)
-  pub after : OutputFiles S
-  pub comes : TypedComesTo predicts predictor harts step config program lines input (step_wants step)
-      (λ core. HasPutInto before after (TraceOf (is_some step.trace) core)) old new status
+  pub after : F
+  pub comes : StepIsTyped predicts predictor harts step config program lines input
+      (λ core. HasPutInto has_failed before after (TraceOf (is_some step.trace) core)) old new status
 
 -- A line was performed with this exit status, and this was on the output before and behind it: where the status says how
 -- the harts stand, that is what the line comes to; where it says that there is no report, the reason is one of this line.
 -- Both with its files as they were read, a script or an order without its comments.
-pub record HasPerformed {S G P : Type 0} (predicts : P → ℕ → ℕ → ℕ → ℕ → P → Type 0) (by : Program S G P) (line : Line)
-    (old new : Option (List ℕ)) (status : ℕ) : Type 0 where
+pub record HasPerformed {F S G P : Type 0} (has_failed : F → Bool) (predicts : P → ℕ → ℕ → ℕ → ℕ → P → Type 0)
+    (by : Program S G P) (line : Line) (old new : Option (List ℕ)) (status : ℕ) : Type 0 where
   pub config : Read
   pub program : Read
   pub second : Read
@@ -87,31 +81,29 @@ pub record HasPerformed {S G P : Type 0} (predicts : P → ℕ → ℕ → ℕ �
   pub has_program : IsReadAs (files_of line).program program
   pub has_second : IsReadAs (second_of by.at_terminal line) second
   pub has_lines : IsReadAs (files_of line).lines lines
-  pub files : OutputFiles S
+  pub files : F
   pub comes : typed_step by.at_terminal line.command ≡ None → IsTrue (says_harts status)
-      → LineHasCome files line.harts line.command config program (uncommented_for line.command second) lines old new
-      status
+      → LineHasCome has_failed files line.harts line.command config program (uncommented_for line.command second)
+      lines old new status
   pub typed : (step : StepCommand) → typed_step by.at_terminal line.command ≡ Some step → IsTrue (says_harts status)
-      → TypedHasCome predicts by.predict files line.harts step config program lines old new status
+      → TypedHasCome has_failed predicts by.predict files line.harts step config program lines old new status
   pub refused : says_harts status ≡ false → (reason : Refused)
       × (exit_status_of reason ≡ status)
       × IsRefusal line.harts line.command config program (uncommented_for line.command second) lines reason
 
 -- What a line of litmus tests came to, which may be several, with its other files as they were read: the line itself was
--- refused, or what was printed is what the tests come to, of their texts as they were read.
-pub record SuiteHasCome {S E : Type 0} (source : TestFiles S E) (litmus : LitmusCommand) (config summary : Read)
-    (old new : Option (List ℕ)) (status : ℕ) : Type 0 where
-  pub left : TestFiles S E
-  pub comes : SuiteLineComesTo (λ source given after. Unit {0}) (λ source refused after. Unit {0}) litmus config summary
-      source left old new status
+-- refused, or what was printed is what the tests come to, of some texts: those that were read. (Of where they come from
+-- nothing is said.)
+abbrev pub SuiteHasCome : LitmusCommand → Read → Read → Option (List ℕ) → Option (List ℕ) → ℕ → Type 0
+SuiteHasCome litmus config summary old new status = SuiteLineComesTo {S = Unit {0}} (λ source given after. Unit {0})
+    (λ source refused after. Unit {0}) litmus config summary tt tt old new status
 
 pub record SuiteIsRefused (litmus : LitmusCommand) (config summary : Read) (status : ℕ) : Type 0 where
   pub why : SuiteRefused
   pub has_status : suite_status_of why ≡ status
   pub refused : IsSuiteLineRefusal litmus config summary why
 
-pub record HasTested {S G P E : Type 0} (by : Program S G P) (told : E) (line : Line) (old new : Option (List ℕ))
-    (status : ℕ) : Type 0 where
+pub record HasTested (line : Line) (old new : Option (List ℕ)) (status : ℕ) : Type 0 where
   pub litmus : LitmusCommand
   pub is_litmus : line.command ≡ Litmus litmus
   pub config : Read
@@ -120,14 +112,14 @@ pub record HasTested {S G P E : Type 0} (by : Program S G P) (told : E) (line : 
   pub has_summary : IsReadAs (files_of line).second summary
   pub known : IsKnown status
   pub ended : SuiteIsRefused litmus config summary status
-      ⊎ ((source : TestFiles S E) × SuiteHasCome source litmus config summary old new status)
+      ⊎ SuiteHasCome litmus config summary old new status
 
 -- Words asked for a line, and it was performed with this exit status.
-pub record HavePerformed {S G P E : Type 0} (predicts : P → ℕ → ℕ → ℕ → ℕ → P → Type 0) (by : Program S G P) (told : E)
-    (words : List (List ℕ)) (old new : Option (List ℕ)) (status : ℕ) : Type 0 where
+pub record HavePerformed {F S G P : Type 0} (has_failed : F → Bool) (predicts : P → ℕ → ℕ → ℕ → ℕ → P → Type 0)
+    (by : Program S G P) (words : List (List ℕ)) (old new : Option (List ℕ)) (status : ℕ) : Type 0 where
   pub line : Line
   pub asked : Asks words line
-  pub performed : HasPerformed predicts by line old new status ⊎ HasTested by told line old new status
+  pub performed : HasPerformed has_failed predicts by line old new status ⊎ HasTested line old new status
 
 -- Words were refused with this exit status, and help and the version are printed.
 pub record AreRefused (words : List (List ℕ)) (old new : Option (List ℕ)) (status : ℕ) : Type 0 where
@@ -137,7 +129,7 @@ pub record AreRefused (words : List (List ℕ)) (old new : Option (List ℕ)) (s
   pub told : HaveTold why old new status
 
 -- One of the two came of words with this exit status.
-abbrev pub HaveEnded : {S G P E : Type 0} → (P → ℕ → ℕ → ℕ → ℕ → P → Type 0) → Program S G P → E → List (List ℕ)
-    → Option (List ℕ) → Option (List ℕ) → ℕ → Type 0
-HaveEnded predicts by told words old new status =
-    HavePerformed predicts by told words old new status ⊎ AreRefused words old new status
+abbrev pub HaveEnded : {F S G P : Type 0} → (F → Bool) → (P → ℕ → ℕ → ℕ → ℕ → P → Type 0) → Program S G P
+    → List (List ℕ) → Option (List ℕ) → Option (List ℕ) → ℕ → Type 0
+HaveEnded has_failed predicts by words old new status =
+    HavePerformed has_failed predicts by words old new status ⊎ AreRefused words old new status

@@ -22,8 +22,9 @@ use crate::read_files::ReadFiles;
 use crate::read_inputs::ReadInputs;
 use crate::words::{fault_of, refuse_words, take_words, texts};
 use actors::Gate;
-use command_parts::{Context, Inputs, Refused};
+use command_parts::{Context, Inputs, Refused, refuse};
 use commands::{perform, perform_typed};
+use event_text::Sink;
 use fault_hints::{FileFault, FileFaults, LineFault, WordsFault};
 use sim_inputs::{
     Command, Line, ProgramCommand, StepCommand, WordsRefused, is_standard_input, read_words,
@@ -66,17 +67,18 @@ pub struct Performed<W> {
 /// where that is a terminal. Behind the line of a fault a hint stands, where `--hints` asks for one, and where
 /// it says nothing of them if `err` is a terminal.
 pub fn perform_words<
+    'a,
     S: Files + Input + Threads + Wait + Sync,
     G: Gate + Sync,
     P: Predict + Copy + Send,
     W: Write,
     E: Write,
->(program: &Program<'_, S, G, P>, words: io::Result<Args>, out: W, err: &mut E) -> Performed<W>
+>(program: &Program<'a, S, G, P>, words: io::Result<Args>, out: W, err: &mut E) -> Performed<W>
     ensures known { IsKnown result.status }
     ensures unread { IfErr words (λ error. IsWordsStatus (words_refused (error_kind error)) result.status
         × HaveTold (words_refused (error_kind error)) (W.contents out) (W.contents result.out) result.status) }
-    ensures read { IfOk words (λ args. HaveEnded P.predicts program.now err.old
-        (map string_bytes (into_iter_items args)) (W.contents out) (W.contents result.out) result.status) }
+    ensures read { IfOk words (λ args. HaveEnded ⟦<OutputFiles<'a, S> as Sink>⟧.has_failed P.predicts
+        program.now (map string_bytes (into_iter_items args)) (W.contents out) (W.contents result.out) result.status) }
 {
     let performed = program.answer_words(words, Noting::new(out), err);
     Performed {
@@ -85,12 +87,19 @@ pub fn perform_words<
     }
 }
 
-impl<S: Files + Input + Threads + Wait + Sync, G: Gate + Sync, P: Predict + Copy + Send> Program<
-    '_,
-    S,
-    G,
-    P,
-> {
+/// Says that there is no standard output to print on, for want of memory. Answers the exit status.
+pub fn refuse_unopened<E: Write>(err: &mut E) -> u8
+    ensures { result ≡ 5 }
+{
+    refuse(Refused::Memory, err)
+}
+
+impl<
+    'a,
+    S: Files + Input + Threads + Wait + Sync,
+    G: Gate + Sync,
+    P: Predict + Copy + Send,
+> Program<'a, S, G, P> {
     /// Does what the words ask for, or says why it isn't done.
     fn answer_words<W: Write, E: Write>(
         &self,
@@ -102,9 +111,9 @@ impl<S: Files + Input + Threads + Wait + Sync, G: Gate + Sync, P: Predict + Copy
         ensures unread { IfErr words (λ error. IsWordsStatus (words_refused (error_kind error)) result.status
             × HaveTold (words_refused (error_kind error)) (W.contents out.writer) (W.contents result.out.writer)
             result.status) }
-        ensures read { IfOk words (λ args. HaveEnded P.predicts self.now err.old
-            (map string_bytes (into_iter_items args)) (W.contents out.writer) (W.contents result.out.writer)
-            result.status) }
+        ensures read { IfOk words (λ args. HaveEnded ⟦<OutputFiles<'a, S> as Sink>⟧.has_failed
+            P.predicts self.now (map string_bytes (into_iter_items args)) (W.contents out.writer)
+            (W.contents result.out.writer) result.status) }
     {
         match take_words(words, self.alloc) {
             Ok(words) => self.answer_texts(words.as_slice(), out, err),
@@ -155,8 +164,9 @@ impl<S: Files + Input + Threads + Wait + Sync, G: Gate + Sync, P: Predict + Copy
         err: &mut E,
     ) -> Performed<Noting<W>>
         ensures known { IsKnown result.status }
-        ensures ended { HaveEnded P.predicts self.now err.old (map string_bytes words.now) (W.contents out.writer)
-            (W.contents result.out.writer) result.status }
+        ensures ended { HaveEnded ⟦<OutputFiles<'a, S> as Sink>⟧.has_failed
+            P.predicts self.now (map string_bytes words.now) (W.contents out.writer) (W.contents result.out.writer)
+            result.status }
     {
         let texts = match texts(words, self.alloc) {
             Ok(texts) => texts,
@@ -192,8 +202,8 @@ impl<S: Files + Input + Threads + Wait + Sync, G: Gate + Sync, P: Predict + Copy
         err: &mut E,
     ) -> Performed<Noting<W>>
         ensures known { IsKnown result.status }
-        ensures performed { HasPerformed P.predicts self.now line.now (W.contents out.writer)
-            (W.contents result.out.writer) result.status }
+        ensures performed { HasPerformed ⟦<OutputFiles<'a, S> as Sink>⟧.has_failed P.predicts self.now line.now
+            (W.contents out.writer) (W.contents result.out.writer) result.status }
     {
         if let Some(step) = typed_step(line, self.at_terminal) {
             return self.read_and_prompt(line, &step, out, err);
@@ -236,7 +246,8 @@ impl<S: Files + Input + Threads + Wait + Sync, G: Gate + Sync, P: Predict + Copy
         ensures refused { says_harts result ≡ false → (reason : AnyRefused)
             × (exit_status_of reason ≡ result) × IsRefusal line.now.harts line.now.command (read_of read.now.config)
             (read_of read.now.program) (read_of read.now.second) (read_of read.now.lines) reason }
-        ensures comes { IsTrue (says_harts result) → LineHasCome context.old.files line.now.harts line.now.command
+        ensures comes { IsTrue (says_harts result) → LineHasCome
+            ⟦<OutputFiles<'a, S> as Sink>⟧.has_failed context.old.files line.now.harts line.now.command
             (read_of read.now.config) (read_of read.now.program) (read_of read.now.second) (read_of read.now.lines)
             (W.contents context.old.out.writer) (W.contents context.new.out.writer) result }
     {
@@ -280,8 +291,8 @@ impl<S: Files + Input + Threads + Wait + Sync, G: Gate + Sync, P: Predict + Copy
     ) -> Performed<Noting<W>>
         requires { typed_step self.now.at_terminal line.now.command ≡ Some step.now }
         ensures known { IsKnown result.status }
-        ensures performed { HasPerformed P.predicts self.now line.now (W.contents out.writer)
-            (W.contents result.out.writer) result.status }
+        ensures performed { HasPerformed ⟦<OutputFiles<'a, S> as Sink>⟧.has_failed P.predicts self.now line.now
+            (W.contents out.writer) (W.contents result.out.writer) result.status }
     {
         let mut files = line.files();
         files.second = None;
@@ -319,8 +330,9 @@ impl<S: Files + Input + Threads + Wait + Sync, G: Gate + Sync, P: Predict + Copy
         requires works { is_some context.old.files.fault ≡ false }
         requires finished { not (is_some context.old.files.current) ≡ true }
         ensures known { IsKnown result }
-        ensures comes { IsTrue (says_harts result) → TypedHasCome P.predicts context.old.predict context.old.files
-            line.now.harts step.now (read_of read.now.config) (read_of read.now.program) (read_of read.now.lines)
+        ensures comes { IsTrue (says_harts result) → TypedHasCome
+            ⟦<OutputFiles<'a, S> as Sink>⟧.has_failed P.predicts context.old.predict context.old.files line.now.harts
+            step.now (read_of read.now.config) (read_of read.now.program) (read_of read.now.lines)
             (W.contents context.old.out.writer) (W.contents context.new.out.writer) result }
         ensures refused { says_harts result ≡ false → (reason : AnyRefused)
             × (exit_status_of reason ≡ result) × IsRefusal line.now.harts (OfProgram (Step step.now))

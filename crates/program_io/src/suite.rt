@@ -15,6 +15,7 @@ use crate::test_names::is_folder;
 use actors::Gate;
 use command_parts::{Context, Refused, refuse};
 use commands::perform_suite_line;
+use event_text::Sink;
 use sim_inputs::{Command, Line, LitmusCommand, tests_asked};
 use smt_core::Predict;
 use std::alloc::AllocError;
@@ -23,12 +24,12 @@ use std::rt::Files;
 use std::sync::Wait;
 use std::thread::Threads;
 
-impl<S: Files + Input + Threads + Wait + Sync, G: Gate + Sync, P: Predict + Copy + Send> Program<
-    '_,
-    S,
-    G,
-    P,
-> {
+impl<
+    'a,
+    S: Files + Input + Threads + Wait + Sync,
+    G: Gate + Sync,
+    P: Predict + Copy + Send,
+> Program<'a, S, G, P> {
     /// Reads the files that a line names, which these words ask for, and performs its command.
     pub(crate) fn perform_asked<W: Write, E: Write>(
         &self,
@@ -38,10 +39,9 @@ impl<S: Files + Input + Threads + Wait + Sync, G: Gate + Sync, P: Predict + Copy
         err: &mut E,
     ) -> Performed<Noting<W>>
         ensures known { IsKnown result.status }
-        ensures performed { HasPerformed P.predicts self.now line.now (W.contents out.writer)
-            (W.contents result.out.writer) result.status
-            ⊎ HasTested self.now err.old line.now (W.contents out.writer) (W.contents result.out.writer)
-            result.status }
+        ensures performed { HasPerformed ⟦<OutputFiles<'a, S> as Sink>⟧.has_failed P.predicts self.now line.now
+            (W.contents out.writer) (W.contents result.out.writer) result.status
+            ⊎ HasTested line.now (W.contents out.writer) (W.contents result.out.writer) result.status }
     {
         match suite_of(line, self.system) {
             Some(litmus) => self.read_and_test(line, litmus, words, out, err),
@@ -59,8 +59,7 @@ impl<S: Files + Input + Threads + Wait + Sync, G: Gate + Sync, P: Predict + Copy
         err: &mut E,
     ) -> Performed<Noting<W>>
         requires { line.now.command ≡ Litmus litmus }
-        ensures { HasTested self.now err.old line.now (W.contents out.writer) (W.contents result.out.writer)
-            result.status }
+        ensures { HasTested line.now (W.contents out.writer) (W.contents result.out.writer) result.status }
     {
         let tests = match tests_asked(words, self.alloc) {
             Ok(tests) => tests,
@@ -113,7 +112,7 @@ impl<S: Files + Input + Threads + Wait + Sync, G: Gate + Sync, P: Predict + Copy
     ) -> u8
         ensures known { IsKnown result }
         ensures ended { SuiteIsRefused litmus.now (read_of read.now.config) (read_of read.now.second) result
-            ⊎ SuiteHasCome source.old litmus.now (read_of read.now.config) (read_of read.now.second)
+            ⊎ SuiteHasCome litmus.now (read_of read.now.config) (read_of read.now.second)
             (W.contents context.old.out.writer) (W.contents context.new.out.writer) result }
     {
         let inputs = read.lent();

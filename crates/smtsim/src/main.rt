@@ -4,8 +4,7 @@
 #![tactic(auto)]
 
 use actors::StaticPredictor;
-use command_parts::{Refused, refuse};
-use program_io::{Program, Progress, hold_closed_streams, perform_words};
+use program_io::{Program, Progress, hold_closed_streams, perform_words, refuse_unopened};
 use std::io::{BufWriter, IsTerminal};
 use std::process::ExitCode;
 use std::{env, io};
@@ -32,6 +31,6 @@ fn main(rt: HostRuntime) -> ExitCode {
             let performed = perform_words(&program, env::args(&rt), out, &mut err);
             ExitCode::from(performed.status)
         }
-        Err(_) => ExitCode::from(refuse(Refused::Memory, &mut err)),
+        Err(_) => ExitCode::from(refuse_unopened(&mut err)),
     }
 }

@@ -1,11 +1,12 @@
 use Rattle.std.proofs.Common.{sym}
 use mathlib.Core.Logic.{inl, inr}
+use Rattle.program_io.proofs.OfSuites.{line_came}
 use Rattle.program_io.proofs.performing.Program.test_and_hint.Goals as goal
 
 pub returns-in-Ok-clause-ended : goal.returns-in-Ok-clause-ended
 returns-in-Ok-clause-ended g c =
     let lent = c.lent-inputs.ensures in
-    inr (record { left = c.perform_suite_line.new.source; comes = rw (sym lent.config, sym lent.second) c.in-Ok.ensures.comes })
+    inr (rw (sym lent.config, sym lent.second) (line_came _ _ _ _ _ _ _ _ _ _ c.in-Ok.ensures.comes))
 
 pub returns-in-Err-clause-ended : goal.returns-in-Err-clause-ended
 returns-in-Err-clause-ended g c =
