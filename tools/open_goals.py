@@ -2,7 +2,8 @@
 """What is open in the proofs of a crate, in half a minute where its libraries stand.
 
     open_goals.py --take                 takes the libraries that `rt ci` has proved on this machine of the sources as they stand here
-    open_goals.py CRATE [FUNCTION ..]    checks the crate, or these of its functions (crate::module::function), past what is open
+    open_goals.py CRATE [FUNCTION ..]    checks the crate, or these of its functions (crate::module::function), past what is open;
+                                         of a crate of tests its tests too
     open_goals.py --make CRATE           makes the library of a crate that was proved here, for a check of those above it
 
 `rt check` proves the libraries below anew, although `rt ci` has, and looks at all sources of a large repository for most of a minute
@@ -106,7 +107,8 @@ def main(words):
             return call_prover("build", crate, "-o", f"out/rlib/{crate}.rlib")
         case [crate, *functions] if crate in CrateList().uses:
             only = [word for function in functions for word in ("--only", function)]
-            return call_prover("check", crate, "--allow-holes", *only)
+            tests = ["--test"] if crate.endswith("_tests") else []
+            return call_prover("check", crate, *tests, "--allow-holes", *only)
     print(__doc__, file=sys.stderr)
     return 2
 

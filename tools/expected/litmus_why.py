@@ -2,15 +2,17 @@
 """Why a litmus test's condition holds of no state: what `smtsim litmus TEST --why` prints behind the states, and what
 its picture has, written from docs/FORMATS.md ("Why an outcome can't come").
 
-    litmus_why.py TEST            the lines, but for the one of how many were looked at, which hangs on the search
+    litmus_why.py TEST            the lines
     litmus_why.py TEST --picture  what litmus_picture.py tells of the picture
 
-It makes all candidate executions, with no search that drops any. Where several candidates are as short in their cycle
-as the one that would be shown, or the shortest cycle isn't the only one, it prints the counts alone, and says so on
-standard error with status 4.
+It makes all candidate executions, with no search that drops any, and asks of each alone whether it fits: coherence is
+asked of accesses in two parts, a read and a write, by whether there is a cycle at one location. Where several cycles
+are as good as the one that would be shown, it prints the sentence alone, and says so on standard error with status 4.
 """
 
+import heapq
 import itertools
+import math
 import sys
 
 import litmus_reading
@@ -137,14 +139,16 @@ class Candidate:
             yield "breaks"
 
     def load_of(self, event):
-        """The LR of an SC."""
+        """The event whose read goes with an access: an AMO itself, of an SC its LR."""
         hart, _, access = self.events[event]
-        return next(i for i, (h, p, _) in enumerate(self.events) if h == hart and p == access.load)
+        if access.reads is not None:
+            return event
+        return next((i for i, (h, p, _) in enumerate(self.events) if h == hart and p == access.load), None)
 
     def broken(self):
         """Each load, write and store that atomicity excludes."""
         for store, (hart, _, access) in enumerate(self.events):
-            if access.load is None or access.writes is None:
+            if access.writes is None or self.load_of(store) is None:
                 continue
             load = self.load_of(store)
             for write, (other, _, there) in enumerate(self.events):
@@ -152,48 +156,140 @@ class Candidate:
                     if self.source_rank(load) < self.ranks[write] < self.ranks[store]:
                         yield load, write, store
 
-    def cycles(self):
-        """All shortest cycles, each once, as events from its first one on."""
-        after = {i: sorted({b for edges in self.edges.values() for a, b in edges if a == i}) for i in range(len(self.events))}
-        for length in range(2, len(self.events) + 1):
-            found = [way for start in after for way in round_trips(after, (start,), length)]
-            if found:
-                return found
-        return []
+    def is_coherent(self):
+        """Whether po, rf, co and fr at one location have no cycle, where an AMO reads, and then writes."""
+        parts = [(e, part) for e, (_, _, a) in enumerate(self.events) for part in "RW"
+                 if (a.reads if part == "R" else a.writes) is not None]
+        place = {p: (self.events[p[0]][1], p[1]) for p in parts}
+        after = {p: set() for p in parts}
+        for p, q in itertools.permutations(parts, 2):
+            (hart, _, a), (other, _, b) = self.events[p[0]], self.events[q[0]]
+            if a.location != b.location:
+                continue
+            is_before = hart == other and place[p] < place[q]
+            rf = p[1] == "W" and q[1] == "R" and self.sources[q[0]] == p[0]
+            co = p[1] == q[1] == "W" and self.ranks[p[0]] < self.ranks[q[0]]
+            fr = p[1] == "R" and q[1] == "W" and self.source_rank(p[0]) < self.ranks[q[0]]
+            if is_before or rf or co or fr:
+                after[p].add(q)
+        return not has_cycle(after)
+
+    def last_numbers(self):
+        """What the write of each location writes that is last, where one is."""
+        return {self.events[w][2].location: self.events[w][2].writes for w in sorted(self.ranks, key=self.ranks.get)}
+
+    def writes_in_order(self):
+        """Whether a hart's writes to a location stand in it as they do in its program."""
+        return all(
+            self.ranks[a] < self.ranks[b] for a, b in itertools.combinations(sorted(self.ranks), 2)
+            if self.events[a][0] == self.events[b][0] and self.events[a][2].location == self.events[b][2].location
+        )
+
+    def cycles(self, is_wanted=lambda a, b: True):
+        """What the least cycle costs, edges of po before edges in all, and each that costs as much, once, as events
+        from its first one on."""
+        after = {i: {} for i in range(len(self.events))}
+        for relation, edges in self.edges.items():
+            for a, b in edges:
+                if is_wanted(self.events[a][2], self.events[b][2]):
+                    po = 1 if relation == "po" else 0
+                    after[a][b] = min(po, after[a].get(b, 1))
+        back = {i: least_ways(after, i) for i in after}
+        costs = [back[i][i] for i in after if i in back[i]]
+        if not costs:
+            return None, []
+        least = min(costs)
+        return least, [way for i in after for way in round_trips(after, back, (i,), least)]
 
 
-def round_trips(after, way, length):
-    if len(way) == length:
-        if way[0] in after[way[-1]]:
+def has_cycle(after):
+    """Whether there is a cycle: what none leads to goes, until all are gone."""
+    left = dict(after)
+    while left:
+        free = [p for p in left if not any(p in left[q] for q in left)]
+        if not free:
+            return True
+        for p in free:
+            del left[p]
+    return False
+
+
+def least_ways(after, end):
+    """What the least way from each event to this one costs, of one edge or more (Dijkstra 1959)."""
+    before = {i: [] for i in after}
+    for a, there in after.items():
+        for b, po in there.items():
+            before[b].append((a, po))
+    cost, waiting = {}, [((po, 1), a) for a, po in before[end]]
+    heapq.heapify(waiting)
+    while waiting:
+        (po, edges), at = heapq.heappop(waiting)
+        if at in cost:
+            continue
+        cost[at] = po, edges
+        for a, more in before[at]:
+            heapq.heappush(waiting, ((po + more, edges + 1), a))
+    return cost
+
+
+def round_trips(after, back, way, least):
+    """Each way back to its first event, over later ones alone, that costs as much as is left."""
+    for there, po in after[way[-1]].items():
+        rest = least[0] - po, least[1] - 1
+        if there == way[0] and rest == (0, 0):
             yield way
-        return
-    for there in after[way[-1]]:
-        if there > way[0] and there not in way:
-            yield from round_trips(after, (*way, there), length)
+        elif there > way[0] and there not in way and back[way[0]].get(there, (99, 99)) == rest:
+            yield from round_trips(after, back, (*way, there), rest)
 
 
-def candidates(test):
+def chosen_ways(test):
+    """The events and the registers of each choice of ways that the registers leave open."""
     for chosen in itertools.product(*all_ways(test)):
         events = [(hart, place, a) for hart, (accesses, _) in enumerate(chosen) for place, a in enumerate(accesses)]
         registers = [registers for _, registers in chosen]
-        if may_hold(test, registers):
-            yield from (c for c in related(test, events) if meets(test, registers, c))
+        asked = ("and", test.question.filter, test.question.condition)
+        if may_hold(test, registers, asked) is not False:
+            yield events, registers
 
 
-def may_hold(test, registers):
-    """Whether the registers leave the condition open. A conjunction of terms is looked at, no other one."""
-    kind, *parts = test.question.condition
-    terms = parts if kind == "and" else [test.question.condition]
-    for one in terms:
-        if one[0] == "term" and isinstance(one[1], tuple):
-            hart, register = one[1]
-            if registers[hart][register] != number_of(one[2]):
-                return False
-    return True
+def may_hold(test, registers, condition):
+    """What the registers alone say of a condition: True, False, or None where a location decides."""
+    kind, *parts = condition
+    if kind == "true":
+        return True
+    if kind == "term":
+        what, value = parts
+        return registers[what[0]][what[1]] == number_of(value) if isinstance(what, tuple) else None
+    told = [may_hold(test, registers, part) for part in parts]
+    if kind in ("not", "implies"):
+        told[0] = None if told[0] is None else not told[0]
+    if kind == "not":
+        return told[0]
+    if kind == "iff":
+        return None if None in told else told[0] == told[1]
+    settled = kind in ("or", "implies")
+    if settled in told:
+        return settled
+    return None if None in told else not settled
+
+
+def count(events):
+    """How many choices there are of what each read reads, which write broke each SC that fails, and in which order each
+    location is written."""
+    number = 1
+    for name in {a.location for _, _, a in events}:
+        number *= math.factorial(sum(a.writes is not None and a.location == name for _, _, a in events))
+    for e, (hart, _, a) in enumerate(events):
+        writes = [(h, k) for k, (h, _, w) in enumerate(events) if w.writes is not None and w.location == a.location]
+        if a.reads is not None:
+            number *= 1 + sum(k != e for _, k in writes)
+        elif a.writes is None:
+            number *= sum(h != hart for h, _ in writes)
+    return number
 
 
 def related(test, events):
-    """All candidates of these events."""
+    """All candidates of these events that have their numbers."""
     reads = [i for i, (_, _, a) in enumerate(events) if a.reads is not None]
     writes = [i for i, (_, _, a) in enumerate(events) if a.writes is not None]
     fails = [i for i, (_, _, a) in enumerate(events) if a.reads is None and a.writes is None]
@@ -264,61 +360,84 @@ def event_line(test, candidate, event):
 
 
 def relation_of(candidate, a, b):
-    return next(r for r in RELATIONS if (a, b) in candidate.edges[r])
+    return next(r for r in ("rf", "co", "fr", "breaks", "po") if (a, b) in candidate.edges[r])
 
 
 def steps_of(candidate, way):
     return [(a, relation_of(candidate, a, b), b) for a, b in zip(way, (*way[1:], way[0]))]
 
 
+def commas(number):
+    return f"{number:,}"
+
+
 class Found:
-    """All candidates, by what excludes them, and the one that is shown, if that is determined."""
+    """All candidates, by what excludes them, and those of which one is shown: each with a cycle, or what is broken."""
 
     def __init__(self, test):
         self.test = test
-        self.all = list(candidates(test))
-        self.broken = [c for c in self.all if any(c.broken())]
-        self.others = [(c, c.cycles()) for c in self.all if not any(c.broken())]
-        self.possible = [c for c, cycles in self.others if not cycles]
-        self.shown, self.way, self.break_ = None, None, None
-        if self.possible:
-            return
-        if self.others:
-            least = min(len(cycles[0]) for _, cycles in self.others)
-            ways = [(c, way) for c, cycles in self.others for way in cycles if len(way) == least]
-            if len(ways) == 1:
-                self.shown, self.way = ways[0]
-        elif len(self.broken) == 1 and len(list(self.broken[0].broken())) == 1:
-            self.shown = self.broken[0]
-            self.break_ = next(self.shown.broken())
+        self.count, numbers = 0, []
+        for events, registers in chosen_ways(test):
+            self.count += count(events)
+            numbers += [c for c in related(test, events) if meets(test, registers, c)]
+        coherent = [c for c in numbers if c.is_coherent()]
+        self.fitting = [c for c in coherent if not any(c.broken())]
+        self.showable = []
+        if self.fitting:
+            self.why = "cycle"
+            told = [(c, *c.cycles()) for c in self.fitting]
+            self.possible = [c for c, cost, _ in told if cost is None]
+            if not self.possible:
+                least = min(cost for _, cost, _ in told)
+                self.showable = [(c, way) for c, cost, ways in told if cost == least for way in ways]
+        elif coherent:
+            self.why = "atomicity"
+            self.showable = [(c, one) for c in coherent for one in c.broken()]
+        elif numbers:
+            self.why = "coherence"
+            told = [c for c in numbers if c.writes_in_order()] or numbers
+            self.showable = [(c, way) for c in told for way in c.cycles(lambda a, b: a.location == b.location)[1]]
+        else:
+            self.why = "numbers"
+        self.shown = self.way = self.break_ = None
+        if len(self.showable) == 1:
+            self.shown, one = self.showable[0]
+            self.way, self.break_ = (None, one) if self.why == "atomicity" else (one, None)
 
     def verdict(self):
-        if not self.all:
-            return "no execution with such numbers was found"
-        if self.possible:
-            return "one has no cycle"
-        if not self.others:
-            return "each is excluded by atomicity"
-        return "each has a cycle or is excluded by atomicity" if self.broken else "each has a cycle"
+        number = len(self.fitting)
+        reason = {
+            "cycle": "one has no cycle" if self.fitting and self.possible else
+                     "it has a cycle" if number == 1 else "each has a cycle",
+            "atomicity": "what has them and is coherent breaks atomicity",
+            "coherence": "what has them breaks coherence",
+            "numbers": "no writes make them",
+        }[self.why]
+        candidates = "candidate" if self.count == 1 else "candidates"
+        fit = "fit" if number > 1 else "fits"
+        found = commas(number) if number else "none"
+        return f"{found} of {commas(self.count)} {candidates} {fit} the numbers; {reason}, all looked at"
 
     def lines(self):
-        yield f"candidates {len(self.all)}"
         yield self.verdict()
-        if self.broken and len(self.others) > len(self.possible):
-            yield f"with a cycle {len(self.others) - len(self.possible)}"
-            yield f"excluded by atomicity {len(self.broken)}"
         if self.shown is None:
             return
         steps = steps_of(self.shown, self.way) if self.way else []
-        if self.way:
-            yield f"cycle {letter(self.way[0])}" + "".join(f" {r} {letter(b)}" for _, r, b in steps)
-        else:
-            load, write, store = map(letter, self.break_)
-            yield f"{write} lies between {load} and {store}"
+        yield self.head()
         yield from (event_line(self.test, self.shown, e) for e in range(len(self.shown.events)))
         for a, relation, b in steps:
             where = "" if relation == "po" else f" {self.shown.events[b][2].location}"
             yield f"{letter(a)} -{relation}{where}-> {letter(b)}"
+
+    def head(self):
+        """The line of the cycle, or of what is broken."""
+        if self.way:
+            steps = steps_of(self.shown, self.way)
+            return f"cycle {letter(self.way[0])}" + "".join(f" {r} {letter(b)}" for _, r, b in steps)
+        load, write, store = map(letter, self.break_)
+        if load == store:
+            return f"{write} lies between what {store} reads and what it writes"
+        return f"{write} lies between {load} and {store}"
 
     def picture(self):
         """What the picture has: the harts, what is read of the start, a box an event, and the arrows."""
@@ -354,7 +473,7 @@ def main(words):
         return 4
     for line in found.picture() if is_picture else found.lines():
         print(line)
-    if found.all and found.shown is None and not found.possible:
+    if found.showable and found.shown is None:
         sys.stderr.write("litmus_why.py: which candidate is shown isn't determined\n")
         return 4
     return 0

@@ -1,5 +1,5 @@
 -- Lines of several litmus tests: when they are refused, and what is printed of their tests.
-use Rattle.std.specs.Prelude.{◌≡◌, ℕ, true, false, List, Option, is_some, Ok, Err}
+use Rattle.std.specs.Prelude.{◌≡◌, ℕ, true, List, Option, is_some, Ok, Err}
 use Rattle.std.proofs.Common.{refl, sym, subst}
 use mathlib.Core.Logic.{inl, inr}
 use Rattle.litmus_suites.specs.Sources.{GivenTest}

@@ -7,7 +7,7 @@ use Rattle.sim_inputs.specs.{declared.settings.Settings.Settings, Configuration.
 use Rattle.sim_inputs.specs.declared.line.LitmusCommand.{LitmusCommand}
 use Rattle.command_parts.specs.declared.refused.Refused.{Refused}
 use Rattle.command_parts.specs.declared.refused.Refused.TheVariants as reason
-use Rattle.plain_commands.specs.Litmus.{IsLitmusRefusal, LitmusComesTo}
+use Rattle.plain_commands.specs.Litmus.{LitmusComesTo}
 use Rattle.core_commands.specs.TestRuns.{IsTestRunsRefusal, TestRunsComeTo}
 use Rattle.commands.specs.{Perform.IsLitmusLineRefusal, Perform.LitmusLineComesTo, Tested.IsTestedRefusal, Tested.TestedComesTo}
 use Rattle.commands.proofs.Sound.{kept}
@@ -27,7 +27,7 @@ no_file None text settings litmus (inr is) = elim is.3 [
   | inl states ↦ states
   | inr order ↦ elim order.holds [
     | inl lacks ↦ lacks
-    | inr written ↦ neither written
+    | inr written ↦ neither written.1
   ]
 ]
 no_file (Some times) text settings litmus (inl is) = is

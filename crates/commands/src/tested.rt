@@ -37,6 +37,7 @@ pub(crate) fn test_or_run<
         (HasPut S.written S.has_failed context.old.files context.new.files)
         (W.contents context.old.out) (W.contents context.new.out)) }
     ensures unwanted { is_some (written_for_test litmus.now) ≡ false → context.new.files ≡ context.old.files }
+    ensures unbroken { OnOk result (S.has_failed context.new.files ≡ false) }
     ensures finished { OnOk result (S.is_finished context.new.files ≡ true) }
     ensures unreported { S.has_failed context.new.files ≡ true
         → W.contents context.new.out ≡ W.contents context.old.out }

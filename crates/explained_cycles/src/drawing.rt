@@ -5,7 +5,8 @@ mod boxes;
 mod layout;
 mod style;
 
-use crate::writing::{verdict, write_way};
+use crate::verdict::write_verdict;
+use crate::writing::{write_broken, write_way};
 use arrows::{Part, write_arrows};
 use boxes::write_boxes;
 use layout::Layout;
@@ -26,7 +27,9 @@ pub fn draw_explanation<W: Write>(
 ) -> io::Result<()> {
     let (events, edges): (&[MemoryEvent], &[Edge]) = match &explanation.shown {
         Shown::Nothing => (&[], &[]),
-        Shown::Cycle { events, edges } => (events.as_slice(), edges.as_slice()),
+        Shown::Cycle { events, edges } | Shown::Incoherent { events, edges } => {
+            (events.as_slice(), edges.as_slice())
+        }
         Shown::Atomicity { events, .. } | Shown::Execution { events, .. } => {
             (events.as_slice(), &[])
         }
@@ -61,16 +64,18 @@ fn write_head<W: Write>(
     write_begin(width, height, out)?;
     out.write_all(b"<title>")?;
     write_shown_text(test.name.as_slice(), out)?;
-    writeln!(out, ": {}</title>", verdict(explanation))?;
+    out.write_all(b": ")?;
+    write_verdict(explanation, out)?;
+    out.write_all(b"</title>\n")?;
     write_style(STYLE, out)?;
     out.write_all(b"<text class=\"name\" x=\"24\" y=\"26\">")?;
     write_shown_text(test.name.as_slice(), out)?;
-    writeln!(
-        out,
-        "</text>\n<text x=\"24\" y=\"46\">{}</text>",
-        verdict(explanation)
-    )?;
-    out.write_all(b"<text class=\"far\" x=\"24\" y=\"64\">")?;
-    write_way(edges, out)?;
+    out.write_all(b"</text>\n<text x=\"24\" y=\"46\">")?;
+    write_verdict(explanation, out)?;
+    out.write_all(b"</text>\n<text class=\"far\" x=\"24\" y=\"64\">")?;
+    match &explanation.shown {
+        Shown::Atomicity { broken, .. } => write_broken(*broken, out)?,
+        _ => write_way(edges, out)?,
+    }
     out.write_all(b"</text>\n")
 }

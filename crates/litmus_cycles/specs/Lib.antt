@@ -1,2 +1,7 @@
+pub mod Choices
+pub mod Endings
 pub mod Executions
 pub mod Explained
+pub mod Looked
+pub mod OneOrder
+pub mod Searched

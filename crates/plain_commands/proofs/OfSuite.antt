@@ -126,7 +126,7 @@ pub states_refused : (text : List ℕ) (settings copy : Settings) (command : Lit
 states_refused text settings copy command telling old new (Ok status) copied refused unprinted = tt
 states_refused text settings copy command telling old new (Err why) copied refused unprinted = elim unprinted [
   | inl output ↦ inl output
-  | inr kept ↦ inr (subst (λ (s : Settings). IsLitmusRefusal text s command why) copied refused, refl, kept)
+  | inr kept ↦ inr (subst (λ (s : Settings). IsLitmusRefusal text s command why) copied refused, (refl, kept))
 ]
 
 pub lines_refused : (text : List ℕ) (settings : Settings) (command : LitmusCommand) (before after : LineTelling)
@@ -136,7 +136,7 @@ pub lines_refused : (text : List ℕ) (settings : Settings) (command : LitmusCom
 lines_refused text settings command before after old new (Ok status) refused = tt
 lines_refused text settings command before after old new (Err why) refused = elim refused [
   | inl output ↦ inl output
-  | inr so ↦ inr (inl so.0, ap Lines so.1, so.2)
+  | inr so ↦ inr (inl so.0, (ap Lines so.1.0, so.1.1))
 ]
 
 -- what came of a test
@@ -159,8 +159,8 @@ refused_so hears settings command text given left before mid after old new reaso
         reason = reason;
         refusal = same.0;
         heard = heard;
-        counts = counts ∙ ap refused_more same.1;
-        unprinted = same.2;
+        counts = counts ∙ ap refused_more same.1.0;
+        unprinted = same.1.1;
         is = is;
       })
     ]

@@ -1,5 +1,6 @@
 -- The order that leads to a final state of a litmus test, as the command `litmus` writes it. (This project's own choice.)
-use Rattle.std.specs.Prelude.{◌≡◌, ◌⊎◌, ℕ, ◌-◌, ◌<◌, List, Option, Some, None, if◌then◌else◌, length, slice_get}
+use Rattle.std.specs.Prelude.{◌≡◌, ◌⊎◌, ℕ, ◌-◌, ◌<◌, true, if◌then◌else◌, List, length, slice_get}
+use Rattle.std.specs.Prelude.{Option, Some, None, is_some}
 use Rattle.elf_image.specs.Image.{ProgramImage}
 use Rattle.core_state.specs.Setup.{setup_of}
 use Rattle.address_labels.specs.Labels.{no_marks}
@@ -59,4 +60,5 @@ LacksState test command listed _ = ⊥
 
 abbrev pub IsStateRefusal : Settings → ProgramImage → LitmusTest → LitmusCommand → List Told → Refused → Type 0
 IsStateRefusal settings image test command listed why =
-    LacksState test command listed why ⊎ IsTextRefusal settings image (order_asked command) why
+    LacksState test command listed why
+    ⊎ ((is_some (state_asked command) ≡ true) × IsTextRefusal settings image (order_asked command) why)

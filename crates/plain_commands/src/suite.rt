@@ -14,11 +14,11 @@ use std::alloc::Global;
 use std::io::Write;
 
 /// Makes all tests of a source, one behind the other, of these settings with each test's harts, and prints of each what
-/// `telling` wants, and behind them what that adds. A test that is refused is told to the source, and the others are made. One test is held at a time, and what is
-/// printed of it is flushed.
+/// `telling` wants, and behind them what that adds. A test that is refused is told to the source, and the others are
+/// made. One test is held at a time, and what is printed of it is flushed.
 ///
-/// Answers the worst exit status of the tests, and of what comes behind them. `Output` is answered where `out` failed; then
-/// no other test is made.
+/// Answers the worst exit status of the tests, and of what comes behind them. `Output` is answered where `out` failed;
+/// then no other test is made.
 pub fn perform_suite<T: TestSource, G: Gate, W: Write>(
     source: &mut T,
     command: &LitmusCommand<'_>,
@@ -56,8 +56,8 @@ fn perform_tests<T: TestSource, G: Gate, W: Write>(
     out: &mut W,
     alloc: Global,
 ) -> Result<u8, Refused>
-    ensures comes { IfOk result (AllHaveCome T.gives T.hears settings.now command.now source.old source.new telling.old telling.new
-        (W.contents out.old) (W.contents out.new)) }
+    ensures comes { IfOk result (AllHaveCome T.gives T.hears settings.now command.now source.old source.new
+        telling.old telling.new (W.contents out.old) (W.contents out.new)) }
     ensures refused { IfErr result IsSuiteRefusal }
 {
     let mut status = 0;
@@ -85,8 +85,8 @@ fn perform_given<T: TestSource, G: Gate, W: Write>(
     out: &mut W,
     alloc: Global,
 ) -> Result<u8, Refused>
-    ensures comes { IfOk result (CameOf T.hears settings.now command.now (text_of given) source.old source.new telling.old telling.new
-        (W.contents out.old) (W.contents out.new)) }
+    ensures comes { IfOk result (CameOf T.hears settings.now command.now (text_of given) source.old source.new
+        telling.old telling.new (W.contents out.old) (W.contents out.new)) }
     ensures refused { IfErr result IsSuiteRefusal }
 {
     match given {
@@ -118,8 +118,8 @@ fn perform_text<T: TestSource, G: Gate, W: Write>(
     out: &mut W,
     alloc: Global,
 ) -> Result<u8, Refused>
-    ensures comes { IfOk result (CameOf T.hears settings.now command.now (Ok text.now) source.old source.new telling.old telling.new
-        (W.contents out.old) (W.contents out.new)) }
+    ensures comes { IfOk result (CameOf T.hears settings.now command.now (Ok text.now) source.old source.new
+        telling.old telling.new (W.contents out.old) (W.contents out.new)) }
     ensures refused { IfErr result IsSuiteRefusal }
 {
     match telling.make(text, command, settings, gate, out, alloc) {

@@ -38,8 +38,9 @@ pub enum LineTelling<'a> {
 }
 
 impl Telling<'_> {
-    /// Makes the test that a text is, of these settings with its harts, and prints what is wanted of it. Answers its exit status: 0, or 3 where it has more
-    /// states than were to be looked at. Where it is refused, and the output didn't fail, nothing is printed.
+    /// Makes the test that a text is, of these settings with its harts, and prints what is wanted of it. Answers its exit
+    /// status: 0, or 3 where it has more states than were to be looked at. Where it is refused, and the output didn't
+    /// fail, nothing is printed.
     pub(crate) fn make<G: Gate, W: Write>(
         &mut self,
         text: &[u8],
@@ -95,7 +96,8 @@ impl Telling<'_> {
 }
 
 impl LineTelling<'_> {
-    /// Makes the test that a text is, of which so many states are looked at the most, and prints what is wanted of its line.
+    /// Makes the test that a text is, of which so many states are looked at the most, and prints what is wanted of its
+    /// line.
     fn make<G: Gate, W: Write>(
         &mut self,
         text: &[u8],

@@ -61,8 +61,9 @@ pub record HasPerformed (at_terminal : Bool) (line : Line) (status : ℕ) : Type
       × (exit_status_of reason ≡ status)
       × IsRefusal line.harts line.command config program (uncommented_for line.command second) lines reason
 
--- A line of several litmus tests was performed with this exit status. Where it is refused, or doesn't come to its end, the
--- reason is one of this line, with its other files as they were read.
+-- A line of litmus tests, which may be several, was performed with this exit status, one of the program's. Where it has
+-- a reason, that is one of this line, with its other files as they were read. That a status has a reason isn't said: a
+-- test that is refused is none of the line's.
 abbrev pub IsRefusedSuite : LitmusCommand → Read → Read → ℕ → Option SuiteRefused → Type 0
 IsRefusedSuite litmus config summary status why = IfSome why (λ reason. (suite_status_of reason ≡ status)
     × IsSuiteLineRefusal litmus config summary reason)

@@ -3,8 +3,8 @@
 use crate::performing::{context_of, read_inputs_of};
 use crate::rows::{ends, text_of};
 use actors::StaticPredictor;
-use command_parts::Refused;
-use commands::perform_suite_line;
+use command_parts::{Inputs, Refused};
+use commands::{SuiteRefused, perform_suite_line};
 use event_text::Over;
 use litmus_suites::NoTest;
 use plain_commands::TestSource;
@@ -36,7 +36,7 @@ const WAITING: &str =
 /// Texts of tests, one behind the other, and how many were refused.
 #[derive(Drop)]
 struct Texts<'a> {
-    texts: &'a [Option<&'a str>],
+    texts: &'a [Option<&'static str>],
     taken: usize,
     refused: usize,
     alloc: Global,
@@ -86,10 +86,31 @@ fn command(summary: bool, expect: Option<&'static str>) -> LitmusCommand<'static
     }
 }
 
+/// Makes the tests of a source for a line that prints on an output. Answers the exit status.
+fn performed<R: Threads + Wait + Sync>(
+    rt: &R,
+    litmus: &LitmusCommand<'_>,
+    inputs: &Inputs<'_>,
+    source: &mut Texts<'_>,
+    out: &mut Vec<u8>,
+    alloc: Global,
+) -> u8 {
+    let mut context = context_of(rt, StaticPredictor, Over::new(Vec::new(alloc)), out, alloc);
+    status_of(perform_suite_line(&mut context, litmus, inputs, source))
+}
+
+/// The exit status of a line.
+fn status_of(ended: Result<u8, SuiteRefused>) -> u8 {
+    match ended {
+        Ok(status) => status,
+        Err(refused) => refused.exit_status(),
+    }
+}
+
 /// Asserts that tests come to an exit status and a text, and how many of them are refused.
 fn come_to<R: Threads + Wait + Abort + Sync>(
     rt: &R,
-    texts: &[Option<&str>],
+    texts: &[Option<&'static str>],
     asked: (bool, Option<&'static str>),
     summary: &str,
     expected: (u8, &str, usize),
@@ -104,17 +125,7 @@ fn come_to<R: Threads + Wait + Abort + Sync>(
         refused: 0,
         alloc,
     };
-    let mut context = context_of(
-        rt,
-        StaticPredictor,
-        Over::new(Vec::new(alloc)),
-        &mut out,
-        alloc,
-    );
-    let status = match perform_suite_line(&mut context, &litmus, &inputs, &mut source) {
-        Ok(status) => status,
-        Err(refused) => refused.exit_status(),
-    };
+    let status = performed(rt, &litmus, &inputs, &mut source, &mut out, alloc);
     let (wanted, text, refused) = expected;
     let is = status == wanted && text_of(&out) == text && source.refused == refused;
     ends(rt, "several tests", status, text_of(&out), is);

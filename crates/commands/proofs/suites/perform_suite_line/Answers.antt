@@ -11,7 +11,8 @@ returns-in-Err-clause-refused g c =
 pub returns-in-Err-telling_of-clause-refused : goal.returns-in-Err-telling_of-clause-refused
 returns-in-Err-telling_of-clause-refused g c =
     let config = as_read c.args.inputs.now.config in
-    c.in-Err-telling_of.ensures.refused config (settled config c.in-Ok.settings (λ settings. Unit {0}) c.in-Ok.ensures.settings tt)
+    c.in-Err-telling_of.ensures.refused config
+    (settled config c.in-Ok.settings (λ settings. Unit {0}) c.in-Ok.ensures.settings tt)
 
 pub returns-in-Ok-perform_suite-clause-known : goal.returns-in-Ok-perform_suite-clause-known
 returns-in-Ok-perform_suite-clause-known g c =
