@@ -4,8 +4,8 @@
 
 Small programs of two or three harts: loads, stores, LR, SC, AMO, branches, output, ends and stops; one in
 three also writes its own code. What is printed has to be the same, but for the number of states; that one too where the code is writable and
-nothing is watched, since then no steps are made at once, and only a hart that goes on has registers that
-matter. Each order that is asked for has to end
+nothing is watched, since then no steps are made at once, and only a hart that goes on has registers and a
+reservation that matter. Each order that is asked for has to end
 as its outcome says, on the plain machine. Programs of more than 20,000 states are left out. Prints how
 many agree, and ends with status 1 where one doesn't.
 """
@@ -123,12 +123,13 @@ def ends_so(made, harts, order, wanted, watch, exists):
 
 
 def plain_states(made, harts):
-    """How many states there are, but for the registers of harts that don't go on."""
+    """How many states there are, but for the registers and reservations of harts that don't go on."""
 
     def state(machine):
         machine.memory = {at: byte for at, byte in machine.memory.items() if byte != made.byte(at)}
-        stands = zip(machine.registers, machine.statuses)
-        machine.registers = [numbers if status == ("going",) else [0] * 32 for numbers, status in stands]
+        goes = [status == ("going",) for status in machine.statuses]
+        machine.registers = [numbers if on else [0] * 32 for numbers, on in zip(machine.registers, goes)]
+        machine.reserved = [held if on else None for held, on in zip(machine.reserved, goes)]
         return frozen(machine)
 
     start = state(Plain(made, harts))

@@ -36,8 +36,8 @@ fn has_both(file: &[u8], alloc: Global) -> bool {
         return false;
     }
     let (first, second) = (symbols[0], symbols[1]);
-    names.name_of(&first) == b"flag"
-        && names.name_of(&second) == b"x"
+    names.name_of(&first) == b"flag".as_slice()
+        && names.name_of(&second) == b"x".as_slice()
         && first.address == 0x8000_0000
         && second.address == 0x8000_0004
         && first.size == 4
@@ -55,8 +55,8 @@ fn has_sizes(file: &[u8], alloc: Global) -> bool {
         return false;
     }
     let (first, second) = (symbols[0], symbols[1]);
-    names.name_of(&first) == b"b"
-        && names.name_of(&second) == b"h"
+    names.name_of(&first) == b"b".as_slice()
+        && names.name_of(&second) == b"h".as_slice()
         && first.address == 0x8000_0000
         && second.address == 0x8000_0004
         && first.size == 1
