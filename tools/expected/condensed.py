@@ -3,10 +3,10 @@
     python3 tools/expected/condensed.py IMAGE [--config FILE] [--watch LIST]
         the number of states
 
-A hart's step is followed by its local ones: where the code may not be written, those that touch no memory and put nothing
-out, and those that end or stop the hart. Then a register counts as 0 that is neither watched nor may be read yet, and the
-hart has no reservation that it can't use. Both are found by the code alone, with JALR going anywhere; where the code may be
-written nothing is left out but of harts that don't go.
+A hart's step is followed by its local ones: where the code may not be written, those that touch no memory and put
+nothing out, and those that end or stop the hart. Then a register counts as 0 that is neither watched nor may be read
+yet, and the hart has no reservation that it can't use. Both are found by the code alone, with JALR going anywhere; where
+the code may be written nothing is left out but of harts that don't go.
 """
 
 import sys
