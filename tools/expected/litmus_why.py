@@ -17,7 +17,7 @@ import math
 import sys
 
 import litmus_reading
-from instructions import ATOMIC_RESULTS, TAKEN
+from instructions import ATOMIC_RESULTS, FORMS, TAKEN
 from litmus import holds, test_file
 from litmus_machine import TooMany, memory_of, number_of, numbers_of, result, with_register
 from litmus_places import RAM, address_text, words_in
@@ -58,8 +58,9 @@ def ways(test, hart, known):
             yield accesses, registers
             continue
         name, *operands = code[place]
-        # An LR reserves anew, whatever is held; a reservation that is held has its own LR.
-        stands = place, registers, None if name == "lr.w" else held
+        # What the step writes and doesn't read doesn't matter: its register, and of an LR what is held.
+        is_anew = name not in ("fence", "sw", *TAKEN) and operands[0] not in read_by(name, operands)
+        stands = place, with_register(registers, operands[0], None) if is_anew else registers, None if name == "lr.w" else held
         if stands in stood:
             yield accesses, None
             continue
@@ -79,6 +80,15 @@ def ways(test, hart, known):
         else:
             after = with_register(registers, operands[0], result(name, registers, operands[1:]))
             waiting.append((place + 1, after, accesses, held, stood))
+
+
+def read_by(name, operands):
+    """The registers that an instruction reads which writes one."""
+    if name in ("li", "lui"):
+        return []
+    if name in ("lw", "lr.w"):
+        return operands[-1:]
+    return operands[1:2] if name in FORMS else operands[1:]
 
 
 def changes(test, access):

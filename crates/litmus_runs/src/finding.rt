@@ -125,11 +125,7 @@ fn word_at(op: Op, address: u32) -> Option<usize>
 }
 
 /// Each of the numbers that a location may have.
-fn numbers(
-    location: usize,
-    known: &Known,
-    alloc: Global,
-) -> Result<Option<Vec<Found>>, AllocError>
+fn numbers(location: usize, known: &Known, alloc: Global) -> Result<Option<Vec<Found>>, AllocError>
     ensures { IfOk result (λ found. IfSome found (λ all. All (IsOneOf known.now.held.items location) all.items)) }
 {
     let mut all = Vec::new(alloc);

@@ -132,7 +132,7 @@ pub(crate) fn follow(
         hart: Hart::new(asked.thread, alloc),
         before: Vec::new(alloc),
     })?;
-    for _ in 0..MOST_STEPS_OF_ALL {
+    'steps: for _ in 0..MOST_STEPS_OF_ALL {
         let Some(next) = going.pop() else {
             return Ok(());
         };

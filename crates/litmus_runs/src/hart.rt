@@ -127,12 +127,7 @@ impl Hart {
     }
 
     /// The hart behind a step that accesses no memory.
-    fn going_on(
-        &self,
-        registers: [u32; 32],
-        next: usize,
-        alloc: Global,
-    ) -> Result<Hart, AllocError>
+    fn going_on(&self, registers: [u32; 32], next: usize, alloc: Global) -> Result<Hart, AllocError>
         ensures registers { IfOk result (λ hart. hart.registers ≡ registers) }
         ensures going { IfOk result (HasGoneOn next self.now) }
     {

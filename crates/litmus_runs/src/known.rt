@@ -52,12 +52,7 @@ impl Known {
     }
 
     /// Adds a number to those of a location.
-    pub fn add(
-        &mut self,
-        test: &LitmusTest,
-        location: usize,
-        number: u32,
-    ) -> Result<(), AllocError>
+    pub fn add(&mut self, test: &LitmusTest, location: usize, number: u32) -> Result<(), AllocError>
         requires may { MayHave test.now location number }
         requires known { AreKnown test.now self.old }
         ensures { OnOk result (AreKnown test.now self.new) }

@@ -64,7 +64,8 @@ pub(crate) fn reserving(op: Op, before: usize, index: usize) -> usize
 {
     match op.kind() {
         Kind::Reserving => index,
-        Kind::Computing | Kind::Loading | Kind::Storing | Kind::Conditional | Kind::Atomic => before,
+        Kind::Computing | Kind::Loading | Kind::Storing | Kind::Conditional | Kind::Atomic =>
+            before,
     }
 }
 

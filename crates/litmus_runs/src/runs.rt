@@ -58,7 +58,7 @@ pub fn all_runs(test: &LitmusTest, alloc: Global) -> Result<AllRuns, AllocError>
 {
     let mut known = Known::new(test, alloc)?;
     let mut growth = Growth::new(test.words.len(), alloc)?;
-    for _ in 0..MOST_ROUNDS {
+    'rounds: for _ in 0..MOST_ROUNDS {
         let mut written = Written::new(&known, test.words.len(), alloc)?;
         let harts = gather(test, &known, &mut written, alloc)?;
         growth.note(&known, &written.known);

@@ -4,7 +4,8 @@
 use crate::access::Access;
 use crate::hart::Hart;
 use litmus_tests::{LitmusStep, LitmusTest, Thread};
-use rv_instr::Kind;
+use numbers::Reg;
+use rv_instr::{Kind, Op};
 use std::alloc::{AllocError, Global};
 
 /// How a hart stood at a step: all that its way from there depends on, and how many numbers it had changed.
@@ -50,12 +51,35 @@ pub(crate) fn is_needless(before: &[Standing], now: &Standing, step: LitmusStep)
 fn is_alike(before: &Standing, now: &Standing, step: LitmusStep) -> bool {
     before.next == now.next
         && before.changes == now.changes
-        && has_same_registers(before, now)
+        && has_same_registers(before, now, step)
         && (is_reserving(step) || has_same_reservation(before, now))
 }
 
-fn has_same_registers(before: &Standing, now: &Standing) -> bool {
-    before.registers == now.registers
+/// Whether each register is the same that this step doesn't write anew.
+fn has_same_registers(before: &Standing, now: &Standing, step: LitmusStep) -> bool {
+    let (first, second) = (before.registers.iter(), now.registers.iter());
+    first.zip(second).enumerate().all(|(register, (a, b))| a == b
+        || is_written_anew(step, register))
+}
+
+/// Whether a step writes a register and doesn't read it.
+fn is_written_anew(step: LitmusStep, index: usize) -> bool {
+    match step {
+        LitmusStep::Straight(instr) => {
+            let op = Op::Known(instr);
+            let is_read = is_same(op.rs1(), index) || is_same(op.rs2(), index);
+            usize::from(op.destination()) == index && !is_read
+        }
+        LitmusStep::Constant { register, .. } => usize::from(register) == index,
+        LitmusStep::Branch { .. } | LitmusStep::Fence(_) => false,
+    }
+}
+
+fn is_same(register: Option<Reg>, index: usize) -> bool {
+    match register {
+        Some(register) => usize::from(register) == index,
+        None => false,
+    }
 }
 
 /// Whether neither has a reservation, or both have that of one load-reserved.

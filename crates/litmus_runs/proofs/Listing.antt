@@ -1,0 +1,34 @@
+-- What is listed of a hart is a way of it: one step more, one run more, one number more.
+use Rattle.std.specs.Prelude.{◌≡◌, ℕ, List, [], ◌∷◌, ◌++◌, All, Contains, Some, None, slice_get}
+use Rattle.std.proofs.lemmas.List.Elements.{All-contains, All-push}
+use Rattle.litmus_tests.specs.declared.{test.LitmusTest.LitmusTest, test.Thread.Thread}
+use Rattle.litmus_tests.specs.declared.step.LitmusStep.{LitmusStep}
+use Rattle.litmus_runs.specs.declared.{access.Access.Access, hart.Hart.Hart, finding.Found.Found}
+use Rattle.litmus_runs.specs.declared.{known.Known.Known, known.Held.Held, runs.Run.Run}
+use Rattle.litmus_runs.specs.Steps.{HasTaken}
+use Rattle.litmus_runs.specs.Ways.{IsOnWay, MayHave, behind_step, written, IsRun, AreKnown, MayFind}
+
+-- A hart makes a step with what it may find.
+pub one_step_more : (test : LitmusTest) (thread : Thread) (known : Known) (before after : Hart) (step : LitmusStep)
+    (found : Found) → AreKnown test known → IsOnWay test thread before
+    → slice_get thread.steps.items before.next ≡ Some step → MayFind known.held.items step before found
+    → HasTaken step found before after → IsOnWay test thread after
+one_step_more test thread known before after step found held way there may taken =
+    behind_step thread before after step found way there may.finds
+    (λ location reads at. All-contains (λ one. MayHave test one.location one.number) known.held.items
+    (record { location = location; number = found.number }) held.each (may.number location reads at)) taken
+
+-- A hart at its end is listed.
+pub one_run_more : (test : LitmusTest) (thread : Thread) (runs : List Run) (hart : Hart) (run : Run)
+    → All (IsRun test thread) runs → IsOnWay test thread hart
+    → slice_get thread.steps.items hart.next ≡ None → run.accesses.items ≡ hart.accesses.items
+    → run.registers ≡ hart.registers → All (IsRun test thread) (runs ++ run ∷ [])
+one_run_more test thread runs hart run all way ended accesses registers = All-push (IsRun test thread) runs run all
+    (record { hart = hart; way = way; ended = ended; accesses = accesses; registers = registers })
+
+-- What a hart has written on its way its location may have.
+pub one_number_more : (test : LitmusTest) (index : ℕ) (thread : Thread) (hart : Hart) (access : Access) (number : ℕ)
+    → slice_get test.threads.items index ≡ Some thread → IsOnWay test thread hart
+    → Contains hart.accesses.items access → access.writes ≡ Some number → MayHave test access.location number
+one_number_more test index thread hart access number there way made writes =
+    written index thread hart access number there way made writes
