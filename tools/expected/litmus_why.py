@@ -5,9 +5,10 @@ its picture has, written from docs/FORMATS.md ("Why an outcome can't come").
     litmus_why.py TEST            the lines
     litmus_why.py TEST --picture  what litmus_picture.py tells of the picture
 
-It makes all candidate executions, with no search that drops any, and asks of each alone whether it fits: coherence is
-asked of accesses in two parts, a read and a write, by whether there is a cycle at one location. Where several cycles
-are as good as the one that would be shown, it prints the sentence alone, and says so on standard error with status 4.
+It makes all candidate executions, location by location, since coherence and atomicity are asked of each location
+alone, and drops what isn't coherent or whole at one. Coherence is asked of accesses in two parts, a read and a write,
+by whether there is a cycle. Where several cycles are as good as the one that would be shown, it prints the sentence
+alone, and says so on standard error with status 4.
 """
 
 import functools
@@ -47,8 +48,8 @@ class Access:
 
 
 def ways(test, hart, known):
-    """All ways of a hart: its accesses, and its registers where it comes to its end, else None: it makes a needless turn,
-    which isn't followed. `known` are the numbers of each location."""
+    """All ways of a hart: its accesses, and its registers where it comes to its end, else None: it makes a needless
+    turn, which isn't followed. `known` are the numbers of each location."""
     code = test.code[hart]
     registers = tuple(number_of(test.starts.get((hart, k), 0)) for k in range(32))
     waiting = [(0, registers, (), None, ())]
@@ -60,7 +61,8 @@ def ways(test, hart, known):
         name, *operands = code[place]
         # What the step writes and doesn't read doesn't matter: its register, and of an LR what is held.
         is_anew = name not in ("fence", "sw", *TAKEN) and operands[0] not in read_by(name, operands)
-        stands = place, with_register(registers, operands[0], None) if is_anew else registers, None if name == "lr.w" else held
+        left = with_register(registers, operands[0], None) if is_anew else registers
+        stands = place, left, None if name == "lr.w" else held
         if stands in stood:
             yield accesses, None
             continue
@@ -73,10 +75,10 @@ def ways(test, hart, known):
         elif name == "fence":
             waiting.append((place + 1, registers, accesses, held, stood))
         elif name in ("lw", "sw", "lr.w", "sc.w", *ATOMIC_RESULTS):
-            for registers_after, access, held_after in accessed(test, place, name, operands, registers, accesses, held, known):
+            for after, access, now in accessed(test, place, name, operands, registers, accesses, held, known):
                 more = accesses if access is None else (*accesses, access)
                 since = () if access is not None and changes(test, access) else stood
-                waiting.append((place + 1, registers_after, more, held_after, since))
+                waiting.append((place + 1, after, more, now, since))
         else:
             after = with_register(registers, operands[0], result(name, registers, operands[1:]))
             waiting.append((place + 1, after, accesses, held, stood))
@@ -126,9 +128,9 @@ def accessed(test, place, name, operands, registers, accesses, held, known):
 
 def all_ways(test):
     """Each hart's ways, where each read finds a number that is there at the start or that is written on some way. A
-    number that is new in a round is read from a write that stands behind a read of one that was new in the round before,
-    and so on: where the locations with new numbers in the last k rounds are written fewer than k times in any execution,
-    none reads those of the last round."""
+    number that is new in a round is read from a write that stands behind a read of one that was new in the round
+    before, and so on: where the locations with new numbers in the last k rounds are written fewer than k times in any
+    execution, none reads those of the last round."""
     known = {name: {number} for name, number in starts_of(test).items()}
     grown = []
     while True:
@@ -340,11 +342,14 @@ def related(test, events, is_kept=lambda candidate: True):
 
 
 def related_at(test, events, name, is_kept):
-    """All choices at a location: the sources of its reads, the places of its writes, and what breaks its SCs that fail."""
+    """All choices at a location: the sources of its reads, the places of its writes, what breaks its SCs that fail."""
     here = [(k, hart, a) for k, (hart, _, a) in enumerate(events) if a.location == name]
     writes = [k for k, _, a in here if a.writes is not None]
-    options = {k: [None] * (starts_of(test)[name] == a.reads) + [w for w in writes if w != k and events[w][2].writes == a.reads]
-               for k, _, a in here if a.reads is not None}
+    options = {}
+    for read, _, access in here:
+        if access.reads is not None:
+            at_start = [None] if starts_of(test)[name] == access.reads else []
+            options[read] = at_start + [w for w in writes if w != read and events[w][2].writes == access.reads]
     kept = [({}, {})]
     for rank in range(1, len(writes) + 1):
         kept = [(s, {**ranks, w: rank}) for s, ranks in kept for w in writes if w not in ranks]

@@ -1,12 +1,13 @@
 -- What is listed of a hart is a way of it: one step more, one run more, one number more.
-use Rattle.std.specs.Prelude.{◌≡◌, ℕ, List, [], ◌∷◌, ◌++◌, All, Contains, Some, None, slice_get}
-use Rattle.std.proofs.lemmas.List.Elements.{All-contains, All-push}
+use Rattle.std.specs.Prelude.{◌≡◌, ℕ, ◌<◌, false, List, [], ◌∷◌, ◌++◌, length, All, Contains, Some, None, slice_get, slice_index_or}
+use Rattle.std.proofs.Common.{sym}
+use Rattle.std.proofs.lemmas.List.Elements.{All-contains, All-contains_itself, All-push}
 use Rattle.litmus_tests.specs.declared.{test.LitmusTest.LitmusTest, test.Thread.Thread}
 use Rattle.litmus_tests.specs.declared.step.LitmusStep.{LitmusStep}
 use Rattle.litmus_runs.specs.declared.{access.Access.Access, hart.Hart.Hart, finding.Found.Found}
 use Rattle.litmus_runs.specs.declared.{known.Known.Known, known.Held.Held, runs.Run.Run}
 use Rattle.litmus_runs.specs.Steps.{HasTaken}
-use Rattle.litmus_runs.specs.Ways.{IsOnWay, MayHave, behind_step, written, IsRun, AreKnown, MayFind}
+use Rattle.litmus_runs.specs.Ways.{IsOnWay, MayHave, behind_step, written, IsRun, AreKnown, MayFind, IsOneOf}
 
 -- A hart makes a step with what it may find.
 pub one_step_more : (test : LitmusTest) (thread : Thread) (known : Known) (before after : Hart) (step : LitmusStep)
@@ -32,3 +33,13 @@ pub one_number_more : (test : LitmusTest) (index : ℕ) (thread : Thread) (hart 
     → Contains hart.accesses.items access → access.writes ≡ Some number → MayHave test access.location number
 one_number_more test index thread hart access number there way made writes =
     written index thread hart access number there way made writes
+
+-- A read finds the number of an entry of its location.
+pub one_of_them : (known : List Held) (location index : ℕ) (d : Held) (found : Found) → index < length known
+    → (slice_index_or known index d).location ≡ location → found.number ≡ (slice_index_or known index d).number
+    → found.held ≡ false → found.location ≡ Some location → IsOneOf known location found
+one_of_them known location index d found bound place number free at = record {
+  held = free;
+  place = at;
+  number = rw (sym place, number) (All-contains_itself known index d bound);
+}

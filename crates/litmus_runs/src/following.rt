@@ -77,14 +77,14 @@ impl Ways {
     /// Lists the way of a hart that is at its end.
     fn list(
         &mut self,
-        asked: Asked<'_, '_, '_>,
+        asked: &Asked<'_, '_, '_>,
         hart: &Hart,
         alloc: Global,
     ) -> Result<(), AllocError>
-        requires way { IsOnWay asked.test.now asked.thread.now hart.now }
-        requires end { slice_get asked.thread.now.steps.items hart.now.next ≡ None }
-        requires runs { All (IsRun asked.test.now asked.thread.now) self.old.runs.items }
-        ensures { OnOk result (All (IsRun asked.test.now asked.thread.now) self.new.runs.items) }
+        requires way { IsOnWay asked.now.test.now asked.now.thread.now hart.now }
+        requires end { slice_get asked.now.thread.now.steps.items hart.now.next ≡ None }
+        requires runs { All (IsRun asked.now.test.now asked.now.thread.now) self.old.runs.items }
+        ensures { OnOk result (All (IsRun asked.now.test.now asked.now.thread.now) self.new.runs.items) }
     {
         if !self.count() {
             return Ok(());
@@ -115,17 +115,17 @@ pub(crate) struct Going {
 
 /// Follows a hart on all its ways. Those that are left stand on a stack: one may have as many steps as a hart makes.
 pub(crate) fn follow(
-    asked: Asked<'_, '_, '_>,
+    asked: &Asked<'_, '_, '_>,
     ways: &mut Ways,
     written: &mut Written,
     alloc: Global,
 ) -> Result<(), AllocError>
-    requires thread { slice_get asked.test.now.threads.items asked.index ≡ Some asked.thread.now }
-    requires known { AreKnown asked.test.now asked.known.now }
-    requires runs { All (IsRun asked.test.now asked.thread.now) ways.old.runs.items }
-    requires written { AreKnown asked.test.now written.old.known }
-    ensures runs { OnOk result (All (IsRun asked.test.now asked.thread.now) ways.new.runs.items) }
-    ensures written { OnOk result (AreKnown asked.test.now written.new.known) }
+    requires thread { slice_get asked.now.test.now.threads.items asked.now.index ≡ Some asked.now.thread.now }
+    requires known { AreKnown asked.now.test.now asked.now.known.now }
+    requires runs { All (IsRun asked.now.test.now asked.now.thread.now) ways.old.runs.items }
+    requires written { AreKnown asked.now.test.now written.old.known }
+    ensures runs { OnOk result (All (IsRun asked.now.test.now asked.now.thread.now) ways.new.runs.items) }
+    ensures written { OnOk result (AreKnown asked.now.test.now written.new.known) }
 {
     let mut going = Vec::new(alloc);
     going.push(Going {
@@ -144,30 +144,30 @@ pub(crate) fn follow(
 
 /// Makes one step of a way, with all that it may find; or the way ends here.
 fn go_on(
-    asked: Asked<'_, '_, '_>,
+    asked: &Asked<'_, '_, '_>,
     from: Going,
     going: &mut Vec<Going>,
     ways: &mut Ways,
     written: &mut Written,
     alloc: Global,
 ) -> Result<(), AllocError>
-    requires thread { slice_get asked.test.now.threads.items asked.index ≡ Some asked.thread.now }
-    requires known { AreKnown asked.test.now asked.known.now }
-    requires from { IsOnWay asked.test.now asked.thread.now from.hart }
-    requires going { AreGoing asked.test.now asked.thread.now going.old.items }
-    requires runs { All (IsRun asked.test.now asked.thread.now) ways.old.runs.items }
-    requires written { AreKnown asked.test.now written.old.known }
-    ensures going { OnOk result (AreGoing asked.test.now asked.thread.now going.new.items) }
-    ensures runs { OnOk result (All (IsRun asked.test.now asked.thread.now) ways.new.runs.items) }
-    ensures written { OnOk result (AreKnown asked.test.now written.new.known) }
+    requires thread { slice_get asked.now.test.now.threads.items asked.now.index ≡ Some asked.now.thread.now }
+    requires known { AreKnown asked.now.test.now asked.now.known.now }
+    requires from { IsOnWay asked.now.test.now asked.now.thread.now from.hart }
+    requires going { AreGoing asked.now.test.now asked.now.thread.now going.old.items }
+    requires runs { All (IsRun asked.now.test.now asked.now.thread.now) ways.old.runs.items }
+    requires written { AreKnown asked.now.test.now written.old.known }
+    ensures going { OnOk result (AreGoing asked.now.test.now asked.now.thread.now going.new.items) }
+    ensures runs { OnOk result (All (IsRun asked.now.test.now asked.now.thread.now) ways.new.runs.items) }
+    ensures written { OnOk result (AreKnown asked.now.test.now written.new.known) }
 {
     let hart = &from.hart;
     let Some(step) = asked.thread.steps.get(hart.next) else {
         ways.list(asked, hart, alloc)?;
         return written.learn(asked, hart);
     };
-    let now = Standing::of(hart, asked.has_conditionals);
-    if is_needless(from.before.as_slice(), &now, *step) {
+    let standing = Standing::of(hart, asked.has_conditionals);
+    if is_needless(from.before.as_slice(), &standing, *step) {
         ways.count();
         return written.learn(asked, hart);
     }
@@ -179,32 +179,32 @@ fn go_on(
         ways.cut();
         return written.learn(asked, hart);
     };
-    go_on_by(asked, &from, now, *step, all, going, ways, alloc)
+    go_on_by(asked, &from, standing, *step, all, going, ways, alloc)
 }
 
 /// Makes a step with each of these finds: the first comes to lie on top.
 fn go_on_by(
-    asked: Asked<'_, '_, '_>,
+    asked: &Asked<'_, '_, '_>,
     from: &Going,
-    now: Standing,
+    standing: Standing,
     step: LitmusStep,
     mut all: Vec<Found>,
     going: &mut Vec<Going>,
     ways: &mut Ways,
     alloc: Global,
 ) -> Result<(), AllocError>
-    requires from { IsOnWay asked.test.now asked.thread.now from.now.hart }
-    requires step { slice_get asked.thread.now.steps.items from.now.hart.next ≡ Some step }
-    requires known { AreKnown asked.test.now asked.known.now }
-    requires all { All (MayFind asked.known.now.held.items step from.now.hart) all.items }
-    requires going { AreGoing asked.test.now asked.thread.now going.old.items }
-    ensures going { OnOk result (AreGoing asked.test.now asked.thread.now going.new.items) }
+    requires from { IsOnWay asked.now.test.now asked.now.thread.now from.now.hart }
+    requires step { slice_get asked.now.thread.now.steps.items from.now.hart.next ≡ Some step }
+    requires known { AreKnown asked.now.test.now asked.now.known.now }
+    requires all { All (MayFind asked.now.known.now.held.items step from.now.hart) all.items }
+    requires going { AreGoing asked.now.test.now asked.now.thread.now going.old.items }
+    ensures going { OnOk result (AreGoing asked.now.test.now asked.now.thread.now going.new.items) }
     ensures runs { ways.new.runs ≡ ways.old.runs }
 {
     while let Some(found) = all.pop() {
         match from.hart.behind(step, found, alloc)? {
             Some(hart) => {
-                let before = with_standing(from.before.as_slice(), now, alloc)?;
+                let before = with_standing(from.before.as_slice(), standing, alloc)?;
                 going.push(Going { hart, before })?;
             }
             None => ways.cut(),

@@ -33,7 +33,12 @@ impl Growth {
     /// was new in the round before, and so on: as many writes of one execution as rounds are looked back on, each of a
     /// location with new numbers there. Where those locations aren't written so often, there is no such execution.
     pub fn is_over(&self, written: &Written) -> bool {
-        (1..=self.round).any(|rounds| self.count_writes(rounds, written) < rounds)
+        for rounds in 1..=self.round {
+            if self.count_writes(rounds, written) < rounds {
+                return true;
+            }
+        }
+        false
     }
 
     /// How often those locations are written at most that have got new numbers in so many last rounds.

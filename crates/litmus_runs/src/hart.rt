@@ -110,6 +110,7 @@ impl Hart {
         }
         let op = Op::Known(instr);
         let computed = computed_by(op, &self.registers);
+        let address = computed.addr;
         let effect = effect_of(op, computed, found.number, found.held);
         let access = access_of(op, found, effect.write, self.next, self.reserving);
         let Some(accesses) = with_made(self.accesses.as_slice(), access, alloc)? else {
@@ -121,7 +122,7 @@ impl Hart {
             registers,
             accesses,
             next: self.next.saturating_add(1),
-            reserved: reservation_after(op, computed.addr, effect, self.reserved),
+            reserved: reservation_after(op, address, effect, self.reserved),
             reserving: reserving(op, self.reserving, self.accesses.len()),
         }))
     }

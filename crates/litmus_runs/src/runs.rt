@@ -96,21 +96,21 @@ fn gather(
             known,
             has_conditionals,
         };
-        harts.push(runs_of(asked, written, alloc)?)?;
+        harts.push(runs_of(&asked, written, alloc)?)?;
     }
     Ok(harts)
 }
 
 fn runs_of(
-    asked: Asked<'_, '_, '_>,
+    asked: &Asked<'_, '_, '_>,
     written: &mut Written,
     alloc: Global,
 ) -> Result<HartRuns, AllocError>
-    requires thread { slice_get asked.test.now.threads.items asked.index ≡ Some asked.thread.now }
-    requires known { AreKnown asked.test.now asked.known.now }
-    requires written { AreKnown asked.test.now written.old.known }
-    ensures runs { IfOk result (λ hart. All (IsRun asked.test.now asked.thread.now) hart.runs.items) }
-    ensures written { IfOk result (λ hart. AreKnown asked.test.now written.new.known) }
+    requires thread { slice_get asked.now.test.now.threads.items asked.now.index ≡ Some asked.now.thread.now }
+    requires known { AreKnown asked.now.test.now asked.now.known.now }
+    requires written { AreKnown asked.now.test.now written.old.known }
+    ensures runs { IfOk result (λ hart. All (IsRun asked.now.test.now asked.now.thread.now) hart.runs.items) }
+    ensures written { IfOk result (λ hart. AreKnown asked.now.test.now written.new.known) }
 {
     let mut ways = Ways::new(alloc);
     follow(asked, &mut ways, written, alloc)?;

@@ -34,11 +34,11 @@ impl Standing {
 /// These and one more.
 pub(crate) fn with_standing(
     before: &[Standing],
-    now: Standing,
+    standing: Standing,
     alloc: Global,
 ) -> Result<Vec<Standing>, AllocError> {
     let mut all = before.to_vec(alloc)?;
-    all.push(now)?;
+    all.push(standing)?;
     Ok(all)
 }
 
@@ -57,9 +57,13 @@ fn is_alike(before: &Standing, now: &Standing, step: LitmusStep) -> bool {
 
 /// Whether each register is the same that this step doesn't write anew.
 fn has_same_registers(before: &Standing, now: &Standing, step: LitmusStep) -> bool {
-    let (first, second) = (before.registers.iter(), now.registers.iter());
-    first.zip(second).enumerate().all(|(register, (a, b))| a == b
-        || is_written_anew(step, register))
+    for register in 0..32 {
+        let is_equal = before.registers[register] == now.registers[register];
+        if !is_equal && !is_written_anew(step, register) {
+            return false;
+        }
+    }
+    true
 }
 
 /// Whether a step writes a register and doesn't read it.

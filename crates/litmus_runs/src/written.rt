@@ -32,11 +32,11 @@ impl Written {
     }
 
     /// Takes in what a hart has done on its way so far.
-    pub fn learn(&mut self, asked: Asked<'_, '_, '_>, hart: &Hart) -> Result<(), AllocError>
-        requires thread { slice_get asked.test.now.threads.items asked.index ≡ Some asked.thread.now }
-        requires way { IsOnWay asked.test.now asked.thread.now hart.now }
-        requires known { AreKnown asked.test.now self.old.known }
-        ensures { OnOk result (AreKnown asked.test.now self.new.known) }
+    pub fn learn(&mut self, asked: &Asked<'_, '_, '_>, hart: &Hart) -> Result<(), AllocError>
+        requires thread { slice_get asked.now.test.now.threads.items asked.now.index ≡ Some asked.now.thread.now }
+        requires way { IsOnWay asked.now.test.now asked.now.thread.now hart.now }
+        requires known { AreKnown asked.now.test.now self.old.known }
+        ensures { OnOk result (AreKnown asked.now.test.now self.new.known) }
     {
         raise(&mut self.by_hart, hart.accesses.as_slice());
         for access in hart.accesses.iter() {
