@@ -1,6 +1,9 @@
 -- What is listed of a hart is a way of it: one step more, one run more, one number more.
-use Rattle.std.specs.Prelude.{◌≡◌, ℕ, ◌<◌, false, List, [], ◌∷◌, ◌++◌, length, All, Contains, Some, None, slice_get, slice_index_or}
-use Rattle.std.proofs.Common.{sym}
+use Rattle.std.specs.Prelude.{◌≡◌, ℕ, ◌+◌, ◌<◌, false, List, [], ◌∷◌, ◌++◌, length, All, Contains, Some, None, slice_get, slice_index_or}
+use Rattle.std.specs.List.{AllZip}
+use Rattle.std.proofs.Common.{sym, subst, take}
+use Rattle.std.proofs.lemmas.List.{take_more}
+use Rattle.std.proofs.lemmas.Option.{slice_get_within, get_or_from_slice_get}
 use Rattle.std.proofs.lemmas.List.Elements.{All-contains, All-contains_itself, All-push}
 use Rattle.litmus_tests.specs.declared.{test.LitmusTest.LitmusTest, test.Thread.Thread}
 use Rattle.litmus_tests.specs.declared.step.LitmusStep.{LitmusStep}
@@ -43,3 +46,27 @@ one_of_them known location index d found bound place number free at = record {
   place = at;
   number = rw (sym place, number) (All-contains_itself known index d bound);
 }
+
+-- So it may have the number of an access at a place of its hart's.
+pub learnt : (test : LitmusTest) (index : ℕ) (thread : Thread) (hart : Hart) (all : List Access) (at : ℕ) (d : Access)
+    (number : ℕ) → slice_get test.threads.items index ≡ Some thread → IsOnWay test thread hart
+    → all ≡ hart.accesses.items → at < length all → (slice_index_or all at d).writes ≡ Some number
+    → MayHave test (slice_index_or all at d).location number
+learnt test index thread hart all at d number there way same bound writes =
+    one_number_more test index thread hart (slice_index_or all at d) number there way
+    (subst (λ (xs : List Access). Contains xs (slice_index_or all at d)) same (All-contains_itself all at d bound)) writes
+
+-- Two lists that go together, with one more of each.
+pub zip_more : {A B : Type 0} (R : A → B → Type 0) (xs : List A) (ys : List B) (x : A) (y : B) → AllZip R xs ys → R x y
+    → AllZip R (xs ++ x ∷ []) (ys ++ y ∷ [])
+zip_more R [] [] x y all one = (one, tt)
+zip_more R [] (b ∷ ys) x y all one = absurd all
+zip_more R (a ∷ xs) [] x y all one = absurd all
+zip_more R (a ∷ xs) (b ∷ ys) x y all one = (all.0, zip_more R xs ys x y all.1 one)
+
+-- So have the first of one list, with the next of it.
+pub zip_next : {A B : Type 0} (R : A → B → Type 0) (xs : List A) (ys : List B) (i : ℕ) (x : A) (y : B)
+    → slice_get xs i ≡ Some x → AllZip R (take i xs) ys → R x y → AllZip R (take (i + 1) xs) (ys ++ y ∷ [])
+zip_next R xs ys i x y there all one =
+    rw (take_more xs i x (slice_get_within xs i x there), get_or_from_slice_get xs i x x there)
+    (zip_more R (take i xs) ys x y all one)

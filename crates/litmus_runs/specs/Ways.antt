@@ -1,6 +1,7 @@
 -- The ways of a litmus test's harts to their end, and which numbers a location may have: those that are there at the
 -- start, and those that a hart writes on its way, where each of its reads has found such a number.
-use Rattle.std.specs.Prelude.{◌≡◌, ℕ, ◌<◌, true, false, List, [], ◌∷◌, length, All, Contains, Option, Some, None, slice_get, slice_index}
+use Rattle.std.specs.Prelude.{◌≡◌, ℕ, ◌<◌, true, false, List, [], ◌∷◌, All, Contains, Option, Some, None, slice_get, slice_index}
+use Rattle.std.specs.List.{AllZip}
 use Rattle.rv_instr.specs.declared.op.Op.{Op}
 use Rattle.rv_instr.specs.Kinds.{kind_of}
 use Rattle.rv_execute.specs.Access.{reads_memory}
@@ -55,11 +56,12 @@ pub record IsRun (test : LitmusTest) (thread : Thread) (run : Run) : Type 0 wher
 abbrev pub AreGoing : LitmusTest → Thread → List Going → Type 0
 AreGoing test thread going = All (λ one. IsOnWay test thread one.hart) going
 
--- Of each hart of a test ways of it are listed, hart 0 first.
-pub record AreRuns (test : LitmusTest) (harts : List HartRuns) : Type 0 where
-  pub count : length harts ≡ length test.threads.items
-  pub each : (index : ℕ) (thread : Thread) (hart : HartRuns) → slice_get test.threads.items index ≡ Some thread
-      → slice_get harts index ≡ Some hart → All (IsRun test thread) hart.runs.items
+-- What is listed of a hart are ways of it; so it is of each hart of a test, hart 0 first.
+abbrev pub AreRunsOf : LitmusTest → Thread → HartRuns → Type 0
+AreRunsOf test thread hart = All (IsRun test thread) hart.runs.items
+
+abbrev pub AreRuns : LitmusTest → List HartRuns → Type 0
+AreRuns test harts = AllZip (AreRunsOf test) test.threads.items harts
 
 -- Each of these is a number that its location may have.
 pub record AreKnown (test : LitmusTest) (known : Known) : Type 0 where

@@ -1,8 +1,9 @@
 //! All ways of one hart, by the numbers that are known.
 
-ghost use Rattle.std.specs.Prelude.{◌≡◌, [], All, None, OnOk, Some, slice_get};
+ghost use Rattle.std.specs.Prelude.{◌≡◌, [], All, IfOk, None, OnOk, Some, slice_get};
 ghost use Rattle.litmus_runs.specs.Ways.{AreGoing, AreKnown, IsOnWay, IsRun, MayFind};
 
+use crate::access::Access;
 use crate::finding::Found;
 use crate::hart::Hart;
 use crate::known::Known;
@@ -89,7 +90,7 @@ impl Ways {
         if !self.count() {
             return Ok(());
         }
-        let accesses = hart.accesses.as_slice().to_vec(alloc)?;
+        let accesses = copy_of(hart.accesses.as_slice(), alloc)?;
         self.runs.push(Run {
             accesses,
             registers: hart.registers,
@@ -104,6 +105,20 @@ impl Ways {
         self.is_whole = false;
         self.count();
     }
+}
+
+fn copy_of(accesses: &[Access], alloc: Global) -> Result<Vec<Access>, AllocError>
+    ensures { IfOk result (λ copy. copy.items ≡ accesses.now) }
+{
+    Ok(accesses.to_vec(alloc)?)
+}
+
+/// The step with an index.
+fn step_at(thread: &Thread, index: usize) -> Option<LitmusStep>
+    ensures { result ≡ slice_get thread.now.steps.items index }
+{
+    let step = thread.steps.get(index)?;
+    Some(*step)
 }
 
 /// A hart on its way, and how it stood at each step before.
@@ -128,18 +143,25 @@ pub(crate) fn follow(
     ensures written { OnOk result (AreKnown asked.now.test.now written.new.known) }
 {
     let mut going = Vec::new(alloc);
-    going.push(Going {
-        hart: Hart::new(asked.thread, alloc),
-        before: Vec::new(alloc),
-    })?;
+    going.push(at_start(asked, alloc))?;
     'steps: for _ in 0..MOST_STEPS_OF_ALL {
         let Some(next) = going.pop() else {
             return Ok(());
         };
         go_on(asked, next, &mut going, ways, written, alloc)?;
     }
-    ways.cut();
+    ways.is_whole = false;
     Ok(())
+}
+
+/// The hart at its first step.
+fn at_start(asked: &Asked<'_, '_, '_>, alloc: Global) -> Going
+    ensures { IsOnWay asked.now.test.now asked.now.thread.now result.hart }
+{
+    Going {
+        hart: Hart::new(asked.thread, alloc),
+        before: Vec::new(alloc),
+    }
 }
 
 /// Makes one step of a way, with all that it may find; or the way ends here.
@@ -162,12 +184,12 @@ fn go_on(
     ensures written { OnOk result (AreKnown asked.now.test.now written.new.known) }
 {
     let hart = &from.hart;
-    let Some(step) = asked.thread.steps.get(hart.next) else {
+    let Some(step) = step_at(asked.thread, hart.next) else {
         ways.list(asked, hart, alloc)?;
         return written.learn(asked, hart);
     };
     let standing = Standing::of(hart, asked.has_conditionals);
-    if is_needless(from.before.as_slice(), &standing, *step) {
+    if is_needless(from.before.as_slice(), &standing, step) {
         ways.count();
         return written.learn(asked, hart);
     }
@@ -175,11 +197,11 @@ fn go_on(
         ways.cut();
         return written.learn(asked, hart);
     }
-    let Some(all) = hart.all_found(*step, asked.known, alloc)? else {
+    let Some(all) = hart.all_found(step, asked.known, alloc)? else {
         ways.cut();
         return written.learn(asked, hart);
     };
-    go_on_by(asked, &from, standing, *step, all, going, ways, alloc)
+    go_on_by(asked, &from, standing, step, all, going, ways, alloc)
 }
 
 /// Makes a step with each of these finds: the first comes to lie on top.
@@ -202,13 +224,35 @@ fn go_on_by(
     ensures runs { ways.new.runs ≡ ways.old.runs }
 {
     while let Some(found) = all.pop() {
-        match from.hart.behind(step, found, alloc)? {
-            Some(hart) => {
-                let before = with_standing(from.before.as_slice(), standing, alloc)?;
-                going.push(Going { hart, before })?;
-            }
-            None => ways.cut(),
-        }
+        go_on_with(asked, from, standing, step, found, going, ways, alloc)?;
     }
+    Ok(())
+}
+
+/// Makes a step with what is found.
+fn go_on_with(
+    asked: &Asked<'_, '_, '_>,
+    from: &Going,
+    standing: Standing,
+    step: LitmusStep,
+    found: Found,
+    going: &mut Vec<Going>,
+    ways: &mut Ways,
+    alloc: Global,
+) -> Result<(), AllocError>
+    requires from { IsOnWay asked.now.test.now asked.now.thread.now from.now.hart }
+    requires step { slice_get asked.now.thread.now.steps.items from.now.hart.next ≡ Some step }
+    requires known { AreKnown asked.now.test.now asked.now.known.now }
+    requires found { MayFind asked.now.known.now.held.items step from.now.hart found }
+    requires going { AreGoing asked.now.test.now asked.now.thread.now going.old.items }
+    ensures going { OnOk result (AreGoing asked.now.test.now asked.now.thread.now going.new.items) }
+    ensures runs { ways.new.runs ≡ ways.old.runs }
+{
+    let Some(hart) = from.hart.behind(step, found, alloc)? else {
+        ways.cut();
+        return Ok(());
+    };
+    let before = with_standing(from.before.as_slice(), standing, alloc)?;
+    going.push(Going { hart, before })?;
     Ok(())
 }

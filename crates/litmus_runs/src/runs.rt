@@ -59,34 +59,55 @@ pub fn all_runs(test: &LitmusTest, alloc: Global) -> Result<AllRuns, AllocError>
     let mut known = Known::new(test, alloc)?;
     let mut growth = Growth::new(test.words.len(), alloc)?;
     'rounds: for _ in 0..MOST_ROUNDS {
-        let mut written = Written::new(&known, test.words.len(), alloc)?;
-        let harts = gather(test, &known, &mut written, alloc)?;
-        growth.note(&known, &written.known);
-        if growth.is_over(&written) {
-            let is_whole = written.known.is_whole && are_whole(&harts);
-            return Ok(AllRuns { harts, is_whole });
+        let gathered = gather(test, &known, alloc)?;
+        growth.note(&known, &gathered.written.known);
+        if growth.is_over(&gathered.written) {
+            return Ok(gathered.into_runs(test));
         }
-        known = written.known;
+        known = gathered.into_known(test);
     }
-    let mut written = Written::new(&known, test.words.len(), alloc)?;
+    let gathered = gather(test, &known, alloc)?;
     Ok(AllRuns {
-        harts: gather(test, &known, &mut written, alloc)?,
+        harts: gathered.harts,
         is_whole: false,
     })
 }
 
-fn gather(
-    test: &LitmusTest,
-    known: &Known,
-    written: &mut Written,
-    alloc: Global,
-) -> Result<Vec<HartRuns>, AllocError>
-    requires known { AreKnown test.now known.now }
-    requires written { AreKnown test.now written.old.known }
-    ensures runs { IfOk result (λ harts. AreRuns test.now harts.items) }
-    ensures written { IfOk result (λ harts. AreKnown test.now written.new.known) }
+/// What is found by the numbers that are known.
+#[derive(Drop)]
+struct Gathered {
+    harts: Vec<HartRuns>,
+    written: Written,
+}
+
+impl Gathered {
+    fn into_known(self, test: &LitmusTest) -> Known
+        requires { AreKnown test.now self.written.known }
+        ensures { AreKnown test.now result }
+    {
+        let written = self.written;
+        written.known
+    }
+
+    fn into_runs(self, test: &LitmusTest) -> AllRuns
+        requires { AreRuns test.now self.harts.items }
+        ensures { AreRuns test.now result.harts.items }
+    {
+        let is_whole = self.written.known.is_whole && are_whole(&self.harts);
+        AllRuns {
+            harts: self.harts,
+            is_whole,
+        }
+    }
+}
+
+fn gather(test: &LitmusTest, known: &Known, alloc: Global) -> Result<Gathered, AllocError>
+    requires { AreKnown test.now known.now }
+    ensures runs { IfOk result (λ gathered. AreRuns test.now gathered.harts.items) }
+    ensures written { IfOk result (λ gathered. AreKnown test.now gathered.written.known) }
 {
     let has_conditionals = has_conditionals(test);
+    let mut written = Written::new(test, known, alloc)?;
     let mut harts = Vec::new(alloc);
     for (index, thread) in test.threads.iter().enumerate() {
         let asked = Asked {
@@ -96,9 +117,10 @@ fn gather(
             known,
             has_conditionals,
         };
-        harts.push(runs_of(&asked, written, alloc)?)?;
+        let hart = runs_of(&asked, &mut written, alloc)?;
+        harts.push(hart)?;
     }
-    Ok(harts)
+    Ok(Gathered { harts, written })
 }
 
 fn runs_of(

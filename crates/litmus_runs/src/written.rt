@@ -7,6 +7,7 @@ use crate::access::Access;
 use crate::following::Asked;
 use crate::hart::Hart;
 use crate::known::Known;
+use litmus_tests::LitmusTest;
 use std::alloc::{AllocError, Global};
 
 /// What is written on ways, whether or not they come to their end.
@@ -21,13 +22,17 @@ pub(crate) struct Written {
 }
 
 impl Written {
-    pub fn new(known: &Known, locations: usize, alloc: Global) -> Result<Written, AllocError>
-        ensures { IfOk result (λ written. written.known.held.items ≡ known.now.held.items) }
+    pub fn new(test: &LitmusTest, known: &Known, alloc: Global) -> Result<Written, AllocError>
+        requires { AreKnown test.now known.now }
+        ensures { IfOk result (λ written. AreKnown test.now written.known) }
     {
+        let copy = known.copy(alloc)?;
+        let most = zeros(test.words.len(), alloc)?;
+        let by_hart = zeros(test.words.len(), alloc)?;
         Ok(Written {
-            known: known.copy(alloc)?,
-            most: zeros(locations, alloc)?,
-            by_hart: zeros(locations, alloc)?,
+            known: copy,
+            most,
+            by_hart,
         })
     }
 

@@ -1,13 +1,10 @@
-use Rattle.std.proofs.Common.{◌≡◌, ℕ, length, All, Some, slice_get}
-use Rattle.litmus_tests.specs.declared.test.Thread.{Thread}
-use Rattle.litmus_runs.specs.declared.runs.HartRuns.{HartRuns}
-use Rattle.litmus_runs.specs.Ways.{AreKnown, IsRun}
+use Rattle.std.specs.List.{AllZip}
+use Rattle.std.proofs.Common.{take}
+use Rattle.litmus_runs.specs.Ways.{AreKnown, AreRunsOf}
 use Rattle.litmus_runs.proofs.runs.gather.Given as goal
 
-abbrev pub invariant-loop-thread : goal.invariant-loop-thread
-invariant-loop-thread l = record {
-  count : length l.harts.items ≡ l.index;
-  each : (index : ℕ) (thread : Thread) (hart : HartRuns) → slice_get l.test.threads.items index ≡ Some thread
-      → slice_get l.harts.items index ≡ Some hart → All (IsRun l.test thread) hart.runs.items;
+abbrev pub invariant-loop-index : goal.invariant-loop-index
+invariant-loop-index l = record {
+  runs : AllZip (AreRunsOf l.test) (take l.index l.test.threads.items) l.harts.items;
   written : AreKnown l.test l.written.known;
 }
