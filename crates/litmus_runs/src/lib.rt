@@ -1,8 +1,8 @@
 //! The ways of a litmus test's harts through their steps: each hart by itself, by the numbers that it may read, which are
 //! those that are there at the start and those that some hart may write.
 //!
-//! Proved of one step (`specs/Steps`): an instruction computes and does what the definitions say (`exec`, `effect_of`),
-//! where it finds some number, and reservations are theirs. That all ways are found is only tested.
+//! Proved (`specs/Ways`): each run that is listed is a way of its hart, by steps that do what the definitions say (`exec`,
+//! `effect_of`), and what it reads is there at the start or is written on such a way. That all are listed is only tested.
 //!
 //! Read in this order: `number` (the words that values are), `access` (what a hart does with memory at a step), `known`
 //! (the numbers that a location may have), `registers`, `reservation`, `finding` (what an instruction finds), `made` (the
