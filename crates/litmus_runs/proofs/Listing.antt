@@ -1,7 +1,7 @@
 -- What is listed of a hart is a way of it: one step more, one run more, one number more.
-use Rattle.std.specs.Prelude.{◌≡◌, ℕ, ◌+◌, ◌<◌, false, List, [], ◌∷◌, ◌++◌, length, All, Contains, Some, None, slice_get, slice_index_or}
+use Rattle.std.specs.Prelude.{◌≡◌, ℕ, zero, suc, ◌+◌, ◌<◌, false, List, [], ◌∷◌, ◌++◌, length, All, Contains, Some, None, slice_get, slice_index_or}
 use Rattle.std.specs.List.{AllZip}
-use Rattle.std.proofs.Common.{sym, subst, take}
+use Rattle.std.proofs.Common.{sym, subst, take, get_or, arith, ap}
 use Rattle.std.proofs.lemmas.List.{take_more}
 use Rattle.std.proofs.lemmas.Option.{slice_get_within, get_or_from_slice_get}
 use Rattle.std.proofs.lemmas.List.Elements.{All-contains, All-contains_itself, All-push}
@@ -70,3 +70,9 @@ pub zip_next : {A B : Type 0} (R : A → B → Type 0) (xs : List A) (ys : List 
 zip_next R xs ys i x y there all one =
     rw (take_more xs i x (slice_get_within xs i x there), get_or_from_slice_get xs i x x there)
     (zip_more R (take i xs) ys x y all one)
+
+-- The item at a place.
+pub some_at : {A : Type 0} (xs : List A) (i : ℕ) (x : A) → i < length xs → x ≡ get_or xs i x → slice_get xs i ≡ Some x
+some_at [] i x there is = absurd (omega (arith, there))
+some_at (y ∷ ys) zero x there is = ap Some (sym is)
+some_at (y ∷ ys) (suc i) x there is = some_at ys i x (omega (arith, there)) is
