@@ -5,23 +5,27 @@ its picture has, written from docs/FORMATS.md ("Why an outcome can't come").
     litmus_why.py TEST            the lines
     litmus_why.py TEST --picture  what litmus_picture.py tells of the picture
 
-It makes all candidate executions, with no search that drops any, and asks of each alone whether it fits: coherence is
-asked of accesses in two parts, a read and a write, by whether there is a cycle at one location. Where several cycles
-are as good as the one that would be shown, it prints the sentence alone, and says so on standard error with status 4.
+It makes all candidate executions, location by location, since coherence and atomicity are asked of each location
+alone, and drops what isn't coherent or whole at one. Coherence is asked of accesses in two parts, a read and a write,
+by whether there is a cycle. Where several cycles are as good as the one that would be shown, it prints the sentence
+alone, and says so on standard error with status 4.
 """
 
+import functools
 import heapq
 import itertools
 import math
 import sys
 
 import litmus_reading
-from instructions import ATOMIC_RESULTS, TAKEN
+from instructions import ATOMIC_RESULTS, FORMS, TAKEN
 from litmus import holds, test_file
-from litmus_machine import memory_of, number_of, numbers_of, result, with_register
+from litmus_machine import TooMany, memory_of, number_of, numbers_of, result, with_register
 from litmus_places import RAM, address_text, words_in
 
 RELATIONS = ("po", "rf", "co", "fr", "breaks")
+# How many accesses of a hart are followed, and how many steps between writes that change something.
+MOST_ACCESSES, MOST_STEPS = 32, 200
 
 
 def words_of(test):
@@ -44,28 +48,56 @@ class Access:
 
 
 def ways(test, hart, known):
-    """All ways of a hart to its end: its accesses and its registers. `known` are the numbers of each location."""
+    """All ways of a hart: its accesses, and its registers where it comes to its end, else None: it makes a needless
+    turn, which isn't followed. `known` are the numbers of each location."""
     code = test.code[hart]
     registers = tuple(number_of(test.starts.get((hart, k), 0)) for k in range(32))
-    waiting = [(0, registers, (), None)]
+    waiting = [(0, registers, (), None, ())]
     while waiting:
-        place, registers, accesses, held = waiting.pop()
+        place, registers, accesses, held, stood = waiting.pop()
         if place == len(code):
             yield accesses, registers
             continue
         name, *operands = code[place]
+        # What the step writes and doesn't read doesn't matter: its register, and of an LR what is held.
+        is_anew = name not in ("fence", "sw", *TAKEN) and operands[0] not in read_by(name, operands)
+        left = with_register(registers, operands[0], None) if is_anew else registers
+        stands = place, left, None if name == "lr.w" else held
+        if stands in stood:
+            yield accesses, None
+            continue
+        if len(accesses) > MOST_ACCESSES or len(stood) > MOST_STEPS:
+            raise TooMany
+        stood = (*stood, stands)
         if name in TAKEN:
             is_taken = TAKEN[name](registers[operands[0]], registers[operands[1]])
-            waiting.append((operands[2] if is_taken else place + 1, registers, accesses, held))
+            waiting.append((operands[2] if is_taken else place + 1, registers, accesses, held, stood))
         elif name == "fence":
-            waiting.append((place + 1, registers, accesses, held))
+            waiting.append((place + 1, registers, accesses, held, stood))
         elif name in ("lw", "sw", "lr.w", "sc.w", *ATOMIC_RESULTS):
-            for registers_after, access, held_after in accessed(test, place, name, operands, registers, accesses, held, known):
+            for after, access, now in accessed(test, place, name, operands, registers, accesses, held, known):
                 more = accesses if access is None else (*accesses, access)
-                waiting.append((place + 1, registers_after, more, held_after))
+                since = () if access is not None and changes(test, access) else stood
+                waiting.append((place + 1, after, more, now, since))
         else:
             after = with_register(registers, operands[0], result(name, registers, operands[1:]))
-            waiting.append((place + 1, after, accesses, held))
+            waiting.append((place + 1, after, accesses, held, stood))
+
+
+def read_by(name, operands):
+    """The registers that an instruction reads which writes one."""
+    if name in ("li", "lui"):
+        return []
+    if name in ("lw", "lr.w"):
+        return operands[-1:]
+    return operands[1:2] if name in FORMS else operands[1:]
+
+
+def changes(test, access):
+    """Whether an access is missed where it is left out. An AMO that writes what it reads isn't, unless an SC may fail
+    for it."""
+    has_conditionals = any(name == "sc.w" for code in test.code for name, *_ in code)
+    return access.writes is not None and (has_conditionals or access.writes != access.reads)
 
 
 def accessed(test, place, name, operands, registers, accesses, held, known):
@@ -95,19 +127,26 @@ def accessed(test, place, name, operands, registers, accesses, held, known):
 
 
 def all_ways(test):
-    """Each hart's ways, where each read finds a number that is there at the start or that some way writes. A number that
-    is handed on from write to write takes at most as many turns as there are writes."""
+    """Each hart's ways, where each read finds a number that is there at the start or that is written on some way. A
+    number that is new in a round is read from a write that stands behind a read of one that was new in the round
+    before, and so on: where the locations with new numbers in the last k rounds are written fewer than k times in any
+    execution, none reads those of the last round."""
     known = {name: {number} for name, number in starts_of(test).items()}
-    turns = 0
+    grown = []
     while True:
         found = [list(ways(test, hart, known)) for hart in range(len(test.code))]
-        count = sum(map(len, known.values()))
+        most = {name: sum(max(writes_at(accesses, name) for accesses, _ in hart) for hart in found) for name in known}
+        written = {name: set(numbers) for name, numbers in known.items()}
         for access in (a for hart in found for accesses, _ in hart for a in accesses if a.writes is not None):
-            known[access.location].add(access.writes)
-        most = sum(max(sum(a.writes is not None for a in accesses) for accesses, _ in hart) for hart in found)
-        turns += 1
-        if sum(map(len, known.values())) == count or turns > most:
-            return found
+            written[access.location].add(access.writes)
+        grown.append({name for name in known if written[name] != known[name]})
+        if any(sum(most[n] for n in set().union(*grown[-k:])) < k for k in range(1, len(grown) + 1)):
+            return [[(accesses, registers) for accesses, registers in hart if registers is not None] for hart in found]
+        known = written
+
+
+def writes_at(accesses, name):
+    return sum(a.writes is not None and a.location == name for a in accesses)
 
 
 class Candidate:
@@ -116,10 +155,14 @@ class Candidate:
 
     def __init__(self, events, sources, ranks, breakers):
         self.events, self.sources, self.ranks, self.breakers = events, sources, ranks, breakers
-        self.edges = {r: set() for r in RELATIONS}
-        for a, b in itertools.permutations(range(len(events)), 2):
+
+    @functools.cached_property
+    def edges(self):
+        edges = {r: set() for r in RELATIONS}
+        for a, b in itertools.permutations(range(len(self.events)), 2):
             for relation in self.relations(a, b):
-                self.edges[relation].add((a, b))
+                edges[relation].add((a, b))
+        return edges
 
     def source_rank(self, event):
         return self.ranks.get(self.sources[event], 0)
@@ -147,19 +190,20 @@ class Candidate:
 
     def broken(self):
         """Each load, write and store that atomicity excludes."""
-        for store, (hart, _, access) in enumerate(self.events):
-            if access.writes is None or self.load_of(store) is None:
-                continue
+        for store in self.ranks:
+            hart, _, access = self.events[store]
             load = self.load_of(store)
-            for write, (other, _, there) in enumerate(self.events):
-                if write in self.ranks and other != hart and there.location == access.location:
+            if load not in self.sources:
+                continue
+            for write in self.ranks:
+                other, _, there = self.events[write]
+                if other != hart and there.location == access.location:
                     if self.source_rank(load) < self.ranks[write] < self.ranks[store]:
                         yield load, write, store
 
     def is_coherent(self):
         """Whether po, rf, co and fr at one location have no cycle, where an AMO reads, and then writes."""
-        parts = [(e, part) for e, (_, _, a) in enumerate(self.events) for part in "RW"
-                 if (a.reads if part == "R" else a.writes) is not None]
+        parts = [(e, "R") for e in self.sources] + [(e, "W") for e in self.ranks]
         place = {p: (self.events[p[0]][1], p[1]) for p in parts}
         after = {p: set() for p in parts}
         for p, q in itertools.permutations(parts, 2):
@@ -288,30 +332,37 @@ def count(events):
     return number
 
 
-def related(test, events):
-    """All candidates of these events that have their numbers."""
-    reads = [i for i, (_, _, a) in enumerate(events) if a.reads is not None]
-    writes = [i for i, (_, _, a) in enumerate(events) if a.writes is not None]
-    fails = [i for i, (_, _, a) in enumerate(events) if a.reads is None and a.writes is None]
-    options = []
-    for read in reads:
-        access = events[read][2]
-        at_start = starts_of(test)[access.location] == access.reads
-        options.append(([None] if at_start else []) + [
-            w for w in writes
-            if w != read and events[w][2].location == access.location and events[w][2].writes == access.reads
-        ])
-    orders = [list(itertools.permutations([w for w in writes if events[w][2].location == n])) for n in words_of(test)]
-    for sources in itertools.product(*options):
-        for order in itertools.product(*orders):
-            ranks = {w: rank for one in order for rank, w in enumerate(one, 1)}
-            found = Candidate(events, dict(zip(reads, sources)), ranks, {})
-            breakers = [
-                [w for w in writes if events[w][0] != events[f][0] and events[w][2].location == events[f][2].location
-                 and found.source_rank(found.load_of(f)) < ranks[w]] for f in fails
-            ]
-            for broke in itertools.product(*breakers):
-                yield Candidate(events, dict(zip(reads, sources)), ranks, dict(zip(fails, broke)))
+def related(test, events, is_kept=lambda candidate: True):
+    """All candidates of these events that have their numbers, and of which each location alone is kept: what isn't kept
+    of a part isn't kept of any whole that it is of."""
+    parts = [list(related_at(test, events, name, is_kept)) for name in words_of(test)]
+    for chosen in itertools.product(*parts):
+        sources, ranks, breakers = ({k: v for part in chosen for k, v in part[i].items()} for i in range(3))
+        yield Candidate(events, sources, ranks, breakers)
+
+
+def related_at(test, events, name, is_kept):
+    """All choices at a location: the sources of its reads, the places of its writes, what breaks its SCs that fail."""
+    here = [(k, hart, a) for k, (hart, _, a) in enumerate(events) if a.location == name]
+    writes = [k for k, _, a in here if a.writes is not None]
+    options = {}
+    for read, _, access in here:
+        if access.reads is not None:
+            at_start = [None] if starts_of(test)[name] == access.reads else []
+            options[read] = at_start + [w for w in writes if w != read and events[w][2].writes == access.reads]
+    kept = [({}, {})]
+    for rank in range(1, len(writes) + 1):
+        kept = [(s, {**ranks, w: rank}) for s, ranks in kept for w in writes if w not in ranks]
+        kept = [(s, ranks) for s, ranks in kept if is_kept(Candidate(events, s, ranks, {}))]
+    for read, sources in options.items():
+        kept = [({**s, read: source}, ranks) for s, ranks in kept for source in sources]
+        kept = [(s, ranks) for s, ranks in kept if is_kept(Candidate(events, s, ranks, {}))]
+    for sources, ranks in kept:
+        found = Candidate(events, sources, ranks, {})
+        fails = {k: [w for w in writes if events[w][0] != hart and found.source_rank(found.load_of(k)) < ranks[w]]
+                 for k, hart, a in here if a.reads is None and a.writes is None}
+        for broke in itertools.product(*fails.values()):
+            yield sources, ranks, dict(zip(fails, broke))
 
 
 def meets(test, registers, candidate):
@@ -371,18 +422,29 @@ def commas(number):
     return f"{number:,}"
 
 
+def meeting(test, is_kept=lambda candidate: True):
+    """The candidates that are kept and in which the condition holds."""
+    for events, registers in chosen_ways(test):
+        yield from (c for c in related(test, events, is_kept) if meets(test, registers, c))
+
+
+def is_any(candidates):
+    return next(candidates, None) is not None
+
+
+def one_or_two(found):
+    return list(itertools.islice(found, 2))
+
+
 class Found:
     """All candidates, by what excludes them, and those of which one is shown: each with a cycle, or what is broken."""
 
     def __init__(self, test):
-        self.test = test
-        self.count, numbers = 0, []
-        for events, registers in chosen_ways(test):
-            self.count += count(events)
-            numbers += [c for c in related(test, events) if meets(test, registers, c)]
-        coherent = [c for c in numbers if c.is_coherent()]
-        self.fitting = [c for c in coherent if not any(c.broken())]
-        self.showable = []
+        self.test, self.showable = test, []
+        self.count = sum(count(events) for events, _ in chosen_ways(test))
+        self.fitting = list(meeting(test, lambda c: c.is_coherent() and not any(c.broken())))
+        coherent = meeting(test, Candidate.is_coherent)
+        in_order = meeting(test, Candidate.writes_in_order)
         if self.fitting:
             self.why = "cycle"
             told = [(c, *c.cycles()) for c in self.fitting]
@@ -390,13 +452,14 @@ class Found:
             if not self.possible:
                 least = min(cost for _, cost, _ in told)
                 self.showable = [(c, way) for c, cost, ways in told if cost == least for way in ways]
-        elif coherent:
+        elif is_any(coherent):
             self.why = "atomicity"
-            self.showable = [(c, one) for c in coherent for one in c.broken()]
-        elif numbers:
+            self.showable = one_or_two((c, one) for c in meeting(test, Candidate.is_coherent) for one in c.broken())
+        elif is_any(meeting(test)):
             self.why = "coherence"
-            told = [c for c in numbers if c.writes_in_order()] or numbers
-            self.showable = [(c, way) for c in told for way in c.cycles(lambda a, b: a.location == b.location)[1]]
+            told = meeting(test, Candidate.writes_in_order) if is_any(in_order) else meeting(test)
+            self.showable = one_or_two(
+                (c, way) for c in told for way in c.cycles(lambda a, b: a.location == b.location)[1])
         else:
             self.why = "numbers"
         self.shown = self.way = self.break_ = None
