@@ -1,7 +1,8 @@
 use Rattle.std.proofs.Common.{◌-◌, length, take, drop, sym, ◌∙◌, arith}
+use Rattle.std.proofs.lemmas.{Result.on_ok_weaker, List.nil_from_length}
 use Rattle.litmus_cycles.specs.Searched.{wanted_behind}
 use Rattle.litmus_cycles.proofs.Wholes.{next_way, all_below, split_first}
-use Rattle.litmus_cycles.proofs.Counting.{next_counted, all_counted}
+use Rattle.litmus_cycles.proofs.Counting.{next_counted, all_counted, counted_here}
 use Rattle.litmus_cycles.proofs.searching.+choose_ways.Goals as goal
 
 pub loop-index-preserved : goal.loop-index-preserved
@@ -43,3 +44,10 @@ returns-clause-counts t c =
     c.args.left.now c.args.findings.now c.loop-index.findings c.loop-index.invariant.counts
     (omega (arith, over, inside, counted))
     (split_first c.args.left.now c.hart-item.result c.in-len1-up.len_at_least c.hart-item.is)
+
+pub returns-in_default-clause-counts : goal.returns-in_default-clause-counts
+returns-in_default-clause-counts t c =
+    let few = c.in_default.len_below in
+    on_ok_weaker c.relate.result (counted_here c.args.test.now c.args.runs.now c.args.chosen.now c.args.left.now
+    c.args.findings.now c.relate.new.findings (nil_from_length c.args.left.now (omega (arith, few))))
+    c.relate.ensures.counts
