@@ -316,6 +316,11 @@ split_first (y ∷ ys) x some is =
     let count : length (y ∷ ys) - 1 ≡ length ys = omega arith in
     ap (λ z. z ∷ ys) (sym is) ∙ ap (λ zs. x ∷ zs) (sym (ap (λ n. take n ys) count ∙ take_all (length ys) ys (omega arith)))
 
+pub split_at_first : {A : Type 0} (xs : List A) (other : A) → 1 ≤ length xs
+    → xs ≡ get_or xs 0 other ∷ take (length xs - 1) (drop 1 xs)
+split_at_first [] other some = absurd (omega (arith, some))
+split_at_first (y ∷ ys) other some = split_first (y ∷ ys) y some refl
+
 -- A search from the beginning.
 pub searched : (test : LitmusTest) (runs : AllRuns) (demand : Demand) (new findings : Findings) → new.fitting ≡ 0
     → new.candidates ≡ 0 → new.is_over ≡ false → Searches demand (all_wanted test runs demand) new findings

@@ -1,7 +1,7 @@
 use Rattle.std.proofs.Common.{◌≡◌, true, ◌-◌, ◌+◌, ◌∙◌, refl, length, take, drop, slice_index_or, IfSome, subst, ap, arith}
 use Rattle.litmus_cycles.specs.declared.open.Open.TheVariants.{Place}
 use Rattle.litmus_cycles.specs.Choices.{may_choose, with_choice}
-use Rattle.litmus_cycles.proofs.Wholes.{next_turn, turn_made, turn_refused, all_turns, split_first}
+use Rattle.litmus_cycles.proofs.Wholes.{next_turn, turn_made, turn_refused, all_turns, split_at_first}
 use Rattle.litmus_cycles.proofs.searching.+decide.Goals as goal
 use Rattle.litmus_cycles.proofs.searching.+decide.Goals.{in-Some+in_ok-decide, in_default-next}
 
@@ -61,7 +61,7 @@ returns-after-next-clause-all t c =
     let inside = i.inside in
     let end = c.loop-turn.auto.turn-end in
     let turns : c.loop-turn.turn + 1 ≡ length events + 1 = omega (arith, over, inside, end) in
-    let split = split_first c.args.left.now first c.in-len1-up.len_at_least refl in
+    let split = split_at_first c.args.left.now (Place 0 0) c.in-len1-up.len_at_least in
     elim c.match-next.branch [
       | in-Some+in_ok-decide w ↦
           let may = subst (λ o. IfSome o (λ next. may_choose test first choice events ≡ true)) w.in-Some.is made.chosen in
