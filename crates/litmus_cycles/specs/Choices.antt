@@ -1,8 +1,8 @@
 -- The candidates of a choice of ways: one after the other it is chosen which write stands at each place of the coherence
 -- order of its location (co), which write each read reads, if not the start (rf), and which write broke each
 -- store-conditional that fails. [Alglave, Maranget and Tautschnig 2014, "Herding Cats": candidate executions]
-use Rattle.std.specs.Prelude.{◌≡◌, ℕ, zero, suc, ◌+◌, ◌-◌, ◌^◌, ◌≤◌, ◌<◌, min, ◌==◌, nat_lt, Bool, false, not, IsTrue}
-use Rattle.std.specs.Prelude.{◌&&◌, ◌||◌, if◌then◌else◌, List, [], ◌∷◌, ◌++◌, length, slice_get, slice_set}
+use Rattle.std.specs.Prelude.{ℕ, zero, suc, ◌+◌, ◌-◌, ◌^◌, min, ◌==◌, nat_lt, Bool, false, not}
+use Rattle.std.specs.Prelude.{◌&&◌, ◌||◌, if◌then◌else◌, List, [], ◌∷◌, ◌++◌, length, map, slice_get, slice_set}
 use Rattle.std.specs.Prelude.{Some, None}
 use Rattle.std.specs.Option.{option_map_or}
 use Rattle.litmus_tests.specs.declared.test.LitmusTest.{LitmusTest}
@@ -89,11 +89,23 @@ abbrev pub with_choice : Open → ℕ → List MemoryEvent → List MemoryEvent
 with_choice (Place location rank) choice events = with_rank events choice rank
 with_choice (Source index) choice events = with_source events index choice
 
--- What comes of it where all that is open is decided, one after the other.
-abbrev pub Comes : LitmusTest → List Open → List MemoryEvent → List MemoryEvent → Type 0
-Comes test [] events all = all ≡ events
-Comes test (first ∷ rest) events all = (choice : ℕ) × (choice ≤ length events)
-    × IsTrue (may_choose test first choice events) × Comes test rest (with_choice first choice events) all
+-- What a function gives of so many indices from 0 on, joined.
+abbrev pub joined : {X : Type 0} → (ℕ → List X) → ℕ → List X
+joined each zero = []
+joined each (suc count) = joined each count ++ each count
+
+-- What comes of this choice of what is open first, by what comes of the events where it is made: nothing where it can't be.
+abbrev pub come_of : LitmusTest → (List MemoryEvent → List (List MemoryEvent)) → Open → List MemoryEvent → ℕ
+    → List (List MemoryEvent)
+come_of test behind first events choice =
+    if may_choose test first choice events then behind (with_choice first choice events) else []
+
+-- All that comes of events where all that is open is decided, one after the other: first by the start, then by each
+-- event, the last one first.
+abbrev pub come : LitmusTest → List Open → List MemoryEvent → List (List MemoryEvent)
+come test [] events = events ∷ []
+come test (first ∷ rest) events =
+    joined (λ turn. come_of test (come test rest) first events (length events - turn)) (suc (length events))
 
 -- An access of a hart as an event of which nothing is decided.
 abbrev pub undecided : ℕ → ℕ → ℕ → Access → MemoryEvent
@@ -127,15 +139,13 @@ events_of harts hart first (index ∷ chosen) =
     undecided_all hart first 0 (accesses_of harts hart index)
     ++ events_of harts (after hart) (first + length (accesses_of harts hart index)) chosen
 
--- One way is chosen of each hart.
-abbrev pub AreWays : List HartRuns → List ℕ → Type 0
-AreWays [] [] = Unit {0}
-AreWays [] (index ∷ chosen) = ⊥
-AreWays (hart ∷ harts) [] = ⊥
-AreWays (hart ∷ harts) (index ∷ chosen) = (index < length hart.runs.items) × AreWays harts chosen
+-- All choices of one way of each hart.
+abbrev pub all_ways : List HartRuns → List (List ℕ)
+all_ways [] = [] ∷ []
+all_ways (hart ∷ harts) = joined (λ index. map (λ chosen. index ∷ chosen) (all_ways harts)) (length hart.runs.items)
 
--- A candidate of these ways: all events of one choice of them, with all that is open decided.
-abbrev pub IsCandidateOf : LitmusTest → List HartRuns → List ℕ → List MemoryEvent → Type 0
-IsCandidateOf test harts chosen all =
+-- The candidates of these ways: their events with all that is open decided.
+abbrev pub candidates_of : LitmusTest → List HartRuns → List ℕ → List (List MemoryEvent)
+candidates_of test harts chosen =
     let events = events_of harts 0 0 chosen in
-    Comes test (all_open events 0 (length test.words.items)) events all
+    come test (all_open events 0 (length test.words.items)) events

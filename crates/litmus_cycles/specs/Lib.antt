@@ -1,4 +1,5 @@
 pub mod Choices
+pub mod Counts
 pub mod Endings
 pub mod Executions
 pub mod Explained

@@ -1,13 +1,13 @@
--- What is claimed where all candidates were looked at, and none fits: that there is none of a kind, by what is shown.
-use Rattle.std.specs.Prelude.{◌≡◌, ℕ, Bool, true, false, IsTrue, List}
+-- What is claimed where all candidates were looked at: how many there are, up to the greatest number, and how many of
+-- them fit; and by what is shown that each of these has a cycle, or that there is none of a kind.
+use Rattle.std.specs.Prelude.{◌≡◌, ◌-◌, ◌^◌, min, Bool, true, false, [], length, All}
 use Rattle.litmus_tests.specs.declared.test.LitmusTest.{LitmusTest}
 use Rattle.litmus_runs.specs.declared.runs.AllRuns.{AllRuns}
-use Rattle.litmus_cycles.specs.declared.event.MemoryEvent.{MemoryEvent}
 use Rattle.litmus_cycles.specs.declared.explanation.{Shown.Shown, Explanation.Explanation}
 use Rattle.litmus_cycles.specs.declared.explanation.Shown.TheVariants.{Nothing, Cycle, Incoherent, Atomicity, Execution}
 use Rattle.litmus_cycles.specs.declared.demand.Demand.{Demand}
 use Rattle.litmus_cycles.specs.declared.demand.Demand.TheVariants.{Numbers, Coherent, Whole}
-use Rattle.litmus_cycles.specs.{Choices.AreWays, Choices.IsCandidateOf, Searched.is_wanted}
+use Rattle.litmus_cycles.specs.{Explained.HasCycle, Searched.all_wanted, Counts.count_all}
 
 abbrev pub is_incoherent : Shown → Bool
 is_incoherent Nothing = false
@@ -24,9 +24,8 @@ is_atomicity (Atomicity events broken) = true
 is_atomicity (Execution events order) = false
 
 -- No candidate is so, whichever way of each hart is chosen.
-pub record NoneMeets (test : LitmusTest) (runs : AllRuns) (demand : Demand) : Type 0 where
-  pub each : (chosen : List ℕ) → AreWays runs.harts.items chosen → (all : List MemoryEvent)
-      → IsCandidateOf test runs.harts.items chosen all → IsTrue (is_wanted test runs chosen demand all) → ⊥
+abbrev pub NoneMeets : LitmusTest → AllRuns → Demand → Type 0
+NoneMeets test runs demand = all_wanted test runs demand ≡ []
 
 -- Where nothing is shown, none has the numbers; where one is shown that isn't coherent, none with the numbers is; where
 -- one is shown that isn't whole, none that is coherent is whole.
@@ -37,6 +36,19 @@ HasNone test runs (Incoherent events edges) = NoneMeets test runs Coherent
 HasNone test runs (Atomicity events broken) = NoneMeets test runs Whole
 HasNone test runs (Execution events order) = Unit {0}
 
+-- Where a cycle is shown, each that fits has one.
+abbrev pub EachHas : LitmusTest → AllRuns → Shown → Type 0
+EachHas test runs Nothing = Unit {0}
+EachHas test runs (Cycle events edges) = All HasCycle (all_wanted test runs Whole)
+EachHas test runs (Incoherent events edges) = Unit {0}
+EachHas test runs (Atomicity events broken) = Unit {0}
+EachHas test runs (Execution events order) = Unit {0}
+
 pub record AreLookedAt (test : LitmusTest) (runs : AllRuns) (explanation : Explanation) : Type 0 where
+  pub candidates : explanation.is_whole ≡ true → explanation.gives_up ≡ false
+      → min explanation.candidates (2 ^ 64 - 1) ≡ min (count_all test runs) (2 ^ 64 - 1)
+  pub fitting : explanation.is_whole ≡ true → explanation.gives_up ≡ false
+      → explanation.fitting ≡ length (all_wanted test runs Whole)
   pub none : explanation.is_whole ≡ true → explanation.gives_up ≡ false → explanation.fitting ≡ 0
       → HasNone test runs explanation.shown
+  pub each : explanation.is_whole ≡ true → explanation.gives_up ≡ false → EachHas test runs explanation.shown

@@ -2,7 +2,7 @@
 //! decided.
 
 ghost use Rattle.std.specs.Prelude.{◌≡◌};
-ghost use Rattle.litmus_cycles.specs.Endings.{may_end};
+ghost use Rattle.litmus_cycles.specs.{Endings.may_end, Counts.is_ruled_out};
 
 use crate::coherence::{keeps_order, load_of, parts, reads_older, writes_behind};
 use crate::demand::Demand;
@@ -49,7 +49,9 @@ impl Asked<'_, '_, '_> {
     }
 
     /// Whether the registers rule the condition out, whatever else is chosen.
-    pub fn is_ruled_out(&self) -> bool {
+    pub fn is_ruled_out(&self) -> bool
+        ensures { result ≡ is_ruled_out self.now.test.now self.now.runs.now self.now.chosen.now }
+    {
         let ending = Ending {
             test: self.test,
             runs: self.runs,
@@ -57,7 +59,10 @@ impl Asked<'_, '_, '_> {
             has_events: false,
             events: &[],
         };
-        ending.is_asked_for() == Some(false)
+        match ending.is_asked_for() {
+            Some(holds) => !holds,
+            None => false,
+        }
     }
 
     /// Whether each read's number is written by some event, or there at the start.

@@ -1,8 +1,8 @@
 //! Why no execution of a test ends as its condition says.
 
-ghost use Rattle.std.specs.Prelude.{◌≡◌, ◌==◌, ◌&&◌, [], IfOk};
+ghost use Rattle.std.specs.Prelude.{◌≡◌, ◌==◌, ◌<◌, ◌&&◌, ◌||◌, true, false, IfOk};
 ghost use Rattle.litmus_cycles.specs.Explained.{IsShown};
-ghost use Rattle.litmus_cycles.specs.Searched.{AreSearched};
+ghost use Rattle.litmus_cycles.specs.Searched.{AreSearched, IsFound};
 ghost use Rattle.litmus_cycles.specs.Looked.{AreLookedAt, is_incoherent, is_atomicity};
 ghost use Rattle.litmus_cycles.specs.declared.demand.Demand.TheVariants.{Whole};
 
@@ -40,10 +40,18 @@ pub fn explain_ways(
     ensures all { IfOk result (AreLookedAt test.now runs.now) }
 {
     let findings = search(test, runs, Demand::Whole, alloc)?;
-    if findings.fitting > 0 || !findings.is_whole {
-        return Ok(told(findings));
+    if has_none(&findings) {
+        return excluded(test, runs, findings, alloc);
     }
-    excluded(test, runs, findings, alloc)
+    Ok(told(findings))
+}
+
+/// Whether all were looked at, and none was found.
+fn has_none(findings: &Findings) -> bool
+    ensures none { result ≡ true → findings.now.fitting ≡ 0 }
+    ensures some { result ≡ false → findings.now.is_whole ≡ true → 0 < findings.now.fitting }
+{
+    findings.is_whole && findings.fitting == 0
 }
 
 /// Why none fits: atomicity where there is a coherent one, coherence where there is one with the numbers.
@@ -53,36 +61,40 @@ fn excluded(
     none: Findings,
     alloc: Global,
 ) -> Result<Explanation, AllocError>
-    requires { AreSearched test.now runs.now [] Whole runs.now.harts.items none }
+    requires searched { AreSearched test.now runs.now Whole none }
+    requires found { IsFound test.now none }
+    requires fits { none.fitting ≡ 0 }
     ensures shown { IfOk result (λ explanation. IsShown test.now explanation.shown) }
     ensures all { IfOk result (AreLookedAt test.now runs.now) }
 {
     let coherent = search(test, runs, Demand::Coherent, alloc)?;
     if is_atomicity(&coherent.shown) {
-        return Ok(because(&none, none.candidates, coherent.shown));
+        return Ok(because(&none, &none, coherent.shown));
     }
     let writes = search_by(test, runs, Demand::Writes, true, alloc)?;
     if is_incoherent(&writes.shown) {
-        return Ok(because(&coherent, none.candidates, writes.shown));
+        return Ok(because(&none, &coherent, writes.shown));
     }
     let numbers = search(test, runs, Demand::Numbers, alloc)?;
     if is_incoherent(&numbers.shown) {
-        return Ok(because(&coherent, none.candidates, numbers.shown));
+        return Ok(because(&none, &coherent, numbers.shown));
     }
-    Ok(because(&numbers, none.candidates, Shown::Nothing))
+    Ok(because(&none, &numbers, Shown::Nothing))
 }
 
-/// That is shown, where a search has found none.
-fn because(none: &Findings, candidates: u64, shown: Shown) -> Explanation
+/// That is shown, where none fits, and another search has found none either.
+fn because(none: &Findings, others: &Findings, shown: Shown) -> Explanation
     ensures shown { result.shown ≡ shown }
-    ensures gives_up { result.gives_up ≡ none.now.gives_up }
-    ensures whole { result.is_whole ≡ (none.now.is_whole && none.now.fitting == 0) }
+    ensures candidates { result.candidates ≡ none.now.candidates }
+    ensures fitting { result.fitting ≡ 0 }
+    ensures gives_up { result.gives_up ≡ (none.now.gives_up || others.now.gives_up) }
+    ensures whole { result.is_whole ≡ (none.now.is_whole && (others.now.is_whole && others.now.fitting == 0)) }
 {
     Explanation {
-        candidates,
+        candidates: none.candidates,
         fitting: 0,
-        is_whole: none.is_whole && none.fitting == 0,
-        gives_up: none.gives_up,
+        is_whole: none.is_whole && (others.is_whole && others.fitting == 0),
+        gives_up: none.gives_up || others.gives_up,
         shown,
     }
 }
@@ -101,8 +113,10 @@ fn is_atomicity(shown: &Shown) -> bool
 
 fn told(findings: Findings) -> Explanation
     ensures shown { result.shown ≡ findings.shown }
+    ensures candidates { result.candidates ≡ findings.candidates }
     ensures fitting { result.fitting ≡ findings.fitting }
     ensures whole { result.is_whole ≡ findings.is_whole }
+    ensures gives_up { result.gives_up ≡ findings.gives_up }
 {
     Explanation {
         candidates: findings.candidates,

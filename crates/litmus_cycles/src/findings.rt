@@ -1,9 +1,9 @@
 //! What a search has found.
 
-ghost use Rattle.std.specs.Prelude.{◌≡◌, ◌<◌, OnOk, IsTrue, false};
+ghost use Rattle.std.specs.Prelude.{◌≡◌, ◌<◌, ◌+◌, ◌-◌, ◌^◌, min, ◌∷◌, [], OnOk, false, true, filter};
 ghost use Rattle.litmus_cycles.specs.declared.explanation.Shown.TheVariants.{Nothing};
-ghost use Rattle.litmus_cycles.specs.Explained.{IsKept, IsShown};
-ghost use Rattle.litmus_cycles.specs.Searched.{IsFound, Grows, Counted, meets_demand};
+ghost use Rattle.litmus_cycles.specs.Explained.{shows_execution, unless_execution};
+ghost use Rattle.litmus_cycles.specs.Searched.{IsFound, Stays, Keeps, Searches, meets_demand};
 
 use crate::demand::Demand;
 use crate::event::MemoryEvent;
@@ -48,6 +48,8 @@ impl Findings {
         ensures over { result.is_over ≡ false }
         ensures gives_up { result.gives_up ≡ gives_up }
         ensures whole { result.is_whole ≡ is_whole }
+        ensures fitting { result.fitting ≡ 0 }
+        ensures counts { result.candidates ≡ 0 }
     {
         let left = if gives_up {
             MOST_TRIED
@@ -70,7 +72,8 @@ impl Findings {
     pub fn count(&mut self, test: &LitmusTest, candidates: u64)
         requires { IsFound test.now self.old }
         ensures found { IsFound test.now self.new }
-        ensures grows { Grows self.old self.new }
+        ensures stays { Stays self.old self.new }
+        ensures counts { self.new.candidates ≡ min (self.old.candidates + candidates) (2 ^ 64 - 1) }
     {
         self.candidates = self.candidates.saturating_add(candidates);
     }
@@ -79,7 +82,8 @@ impl Findings {
     pub fn try_one(&mut self, test: &LitmusTest)
         requires { IsFound test.now self.old }
         ensures found { IsFound test.now self.new }
-        ensures grows { Grows self.old self.new }
+        ensures stays { Stays self.old self.new }
+        ensures counts { self.new.candidates ≡ self.old.candidates }
     {
         self.left = self.left.saturating_sub(1);
         if self.left == 0 {
@@ -92,14 +96,14 @@ impl Findings {
     pub fn leave_out(&mut self, test: &LitmusTest)
         requires { IsFound test.now self.old }
         ensures found { IsFound test.now self.new }
-        ensures grows { Grows self.old self.new }
+        ensures stays { Stays self.old self.new }
         ensures whole { self.new.is_whole ≡ false }
     {
         self.is_whole = false;
     }
 
-    /// Takes a candidate of which all is decided: where all that fit are wanted, one without a cycle is kept, else the
-    /// one with the least cycle; of another demand the first.
+    /// Takes a candidate of which all is decided: of those that fit the first without a cycle is kept, else the first
+    /// with the least cycle; of another demand the first.
     pub fn take(
         &mut self,
         test: &LitmusTest,
@@ -109,8 +113,9 @@ impl Findings {
     ) -> Result<(), AllocError>
         requires { IsFound test.now self.old }
         ensures found { IsFound test.now self.new }
-        ensures grows { Grows self.old self.new }
-        ensures counted { OnOk result (IsTrue (meets_demand demand test.now events.now) → Counted self.new) }
+        ensures searches { OnOk result (Searches demand (filter (meets_demand demand test.now) (events.now ∷ []))
+            self.old self.new) }
+        ensures counts { OnOk result (self.new.candidates ≡ self.old.candidates) }
     {
         let Some(judged) = judge(test, demand, events, self.cost, alloc)? else {
             return Ok(());
@@ -121,18 +126,18 @@ impl Findings {
 
     /// One more is counted. What is shown from here on is what was, or what this one shows.
     fn keep(&mut self, judged: Judged)
-        ensures shown { IsKept judged self.old.shown self.new.shown }
-        ensures grows { Grows self.old self.new }
-        ensures counted { 0 < self.new.fitting }
+        ensures keeps { Keeps judged self.old self.new }
+        ensures counts { self.new.candidates ≡ self.old.candidates }
     {
         match judged {
             Judged::Less(shown, cost) => {
-                self.shown = shown;
+                self.show(shown);
                 self.cost = Some(cost);
             }
             Judged::More => {}
+            Judged::Allowed(shown) => self.show(shown),
             Judged::Last(shown) => {
-                self.shown = shown;
+                self.show(shown);
                 self.is_over = true;
             }
             Judged::Untold => self.is_whole = false,
@@ -140,10 +145,28 @@ impl Findings {
         self.count_one();
     }
 
+    /// Shows this, unless an execution is shown that can come.
+    fn show(&mut self, shown: Shown)
+        ensures shown { self.new.shown ≡ unless_execution self.old.shown shown }
+        ensures whole { self.new.is_whole ≡ self.old.is_whole }
+        ensures same { self.new.gives_up ≡ self.old.gives_up }
+        ensures over { self.new.is_over ≡ self.old.is_over }
+        ensures fitting { self.new.fitting ≡ self.old.fitting }
+        ensures counts { self.new.candidates ≡ self.old.candidates }
+    {
+        if !shows_execution(&self.shown) {
+            self.shown = shown;
+        }
+    }
+
     fn count_one(&mut self)
         ensures shown { self.new.shown ≡ self.old.shown }
-        ensures grows { Grows self.old self.new }
-        ensures counted { 0 < self.new.fitting }
+        ensures same { self.new.gives_up ≡ self.old.gives_up }
+        ensures whole { self.new.is_whole ≡ true → self.old.is_whole ≡ true }
+        ensures over { self.new.is_whole ≡ true → self.new.is_over ≡ self.old.is_over }
+        ensures fitting { self.new.is_whole ≡ true → self.new.fitting ≡ self.old.fitting + 1 }
+        ensures some { 0 < self.new.fitting }
+        ensures counts { self.new.candidates ≡ self.old.candidates }
     {
         self.fitting = self.fitting.saturating_add(1);
         if self.fitting >= MOST_FITTING {
@@ -151,4 +174,10 @@ impl Findings {
             self.is_whole = false;
         }
     }
+}
+
+fn shows_execution(shown: &Shown) -> bool
+    ensures { result ≡ shows_execution shown.now }
+{
+    matches!(shown, Shown::Execution { .. })
 }

@@ -1,8 +1,9 @@
 //! What is to be decided of a candidate whose harts have chosen their ways, and how many ways there are to do it.
 
-ghost use Rattle.std.specs.Prelude.{◌≡◌, ◌++◌, ◌==◌, ◌&&◌, OnOk, IfOk};
+ghost use Rattle.std.specs.Prelude.{◌≡◌, ◌++◌, ◌==◌, ◌&&◌, ◌^◌, ◌-◌, OnOk, IfOk, count_by, min};
 ghost use Rattle.litmus_cycles.specs.Choices.{places, sources, open_at, all_open, writes_at, has_source};
-ghost use Rattle.litmus_cycles.specs.Executions.{is_write};
+ghost use Rattle.litmus_cycles.specs.Executions.{is_write, is_others_write};
+ghost use Rattle.litmus_cycles.specs.Counts.{orders, all_orders, sources_of, all_sources, combinations};
 
 use crate::coherence::is_others_write;
 use crate::event::MemoryEvent;
@@ -122,28 +123,63 @@ pub(crate) fn count_writes(events: &[MemoryEvent], location: usize) -> usize
 /// How many ways there are to decide it: each read reads any write of its location but its own, or the start; each
 /// store-conditional that fails was broken by any write of another hart; the writes of each location stand in any
 /// order. The greatest number where there are more.
-pub(crate) fn count_candidates(events: &[MemoryEvent], locations: usize) -> u64 {
-    let mut count = 1_u64;
-    for location in 0..locations {
-        for rank in 0..count_writes(events, location) {
-            count = count.saturating_mul((rank as u64).saturating_add(1));
-        }
-    }
-    for event in events {
-        count = count.saturating_mul(count_sources(events, event));
-    }
-    count
+pub(crate) fn count_candidates(events: &[MemoryEvent], locations: usize) -> u64
+    ensures { result ≡ min (combinations events.now locations) (2 ^ 64 - 1) }
+{
+    count_all_orders(events, locations).saturating_mul(count_all_sources(events, events))
 }
 
-fn count_sources(events: &[MemoryEvent], event: &MemoryEvent) -> u64 {
-    let writes = count_writes(events, event.location) as u64;
-    match (event.reads, event.writes) {
-        (Some(_), Some(_)) => writes,
-        (Some(_), None) => writes.saturating_add(1),
-        (None, Some(_)) => 1,
-        (None, None) => events
-            .iter()
-            .filter(|write| is_others_write(event, write))
-            .count() as u64,
+/// In how many orders the writes of so many locations may stand.
+fn count_all_orders(events: &[MemoryEvent], locations: usize) -> u64
+    ensures { result ≡ min (all_orders events.now locations) (2 ^ 64 - 1) }
+{
+    if locations == 0 {
+        return 1;
     }
+    let count = count_writes(events, locations - 1);
+    count_all_orders(events, locations - 1).saturating_mul(count_orders(count))
+}
+
+/// In how many orders so many writes may stand.
+fn count_orders(count: usize) -> u64
+    ensures { result ≡ min (orders count) (2 ^ 64 - 1) }
+{
+    if count == 0 {
+        return 1;
+    }
+    count_orders(count - 1).saturating_mul(count as u64)
+}
+
+/// How many sources these of all events may have.
+fn count_all_sources(all: &[MemoryEvent], events: &[MemoryEvent]) -> u64
+    ensures { result ≡ min (all_sources all.now events.now) (2 ^ 64 - 1) }
+{
+    let [event, rest @ ..] = events else {
+        return 1;
+    };
+    count_sources(all, event).saturating_mul(count_all_sources(all, rest))
+}
+
+fn count_sources(events: &[MemoryEvent], event: &MemoryEvent) -> u64
+    ensures { result ≡ sources_of events.now event.now }
+{
+    if event.reads.is_none() && event.writes.is_none() {
+        return count_others_writes(event, events) as u64;
+    }
+    let writes = count_writes(events, event.location);
+    match (event.reads, event.writes) {
+        (Some(_), Some(_)) => writes as u64,
+        (Some(_), None) => writes.saturating_add(1) as u64,
+        (None, _) => 1,
+    }
+}
+
+/// How many of these are writes of another hart to the location of an event.
+fn count_others_writes(event: &MemoryEvent, events: &[MemoryEvent]) -> usize
+    ensures { result ≡ count_by (λ write. is_others_write event.now write) events.now }
+{
+    events
+        .iter()
+        .filter(|write| is_others_write(event, write))
+        .count()
 }

@@ -1,7 +1,7 @@
 //! Whether something may come of each location alone, so that none is gone through for each way of another in vain.
 
 ghost use Rattle.std.specs.Prelude.{◌≡◌, IfOk, true};
-ghost use Rattle.litmus_cycles.specs.Searched.{IsFound, Grows};
+ghost use Rattle.litmus_cycles.specs.Searched.{IsFound, Stays};
 
 use crate::deciding::Asked;
 use crate::event::MemoryEvent;
@@ -19,7 +19,8 @@ pub(crate) fn is_given_up(
 ) -> Result<bool, AllocError>
     requires { IsFound asked.now.test.now findings.old }
     ensures found { IsFound asked.now.test.now findings.new }
-    ensures grows { Grows findings.old findings.new }
+    ensures stays { Stays findings.old findings.new }
+    ensures counts { findings.new.candidates ≡ findings.old.candidates }
     ensures given_up { IfOk result (λ given_up. given_up ≡ true → findings.old.gives_up ≡ true) }
 {
     if !findings.gives_up {
@@ -37,7 +38,8 @@ fn are_possible(
 ) -> Result<bool, AllocError>
     requires { IsFound asked.now.test.now findings.old }
     ensures found { IsFound asked.now.test.now findings.new }
-    ensures grows { Grows findings.old findings.new }
+    ensures stays { Stays findings.old findings.new }
+    ensures counts { findings.new.candidates ≡ findings.old.candidates }
 {
     if !asked.may_end(events) || !asked.have_writes(events) {
         return Ok(false);
@@ -62,7 +64,8 @@ fn is_possible(
 ) -> Result<bool, AllocError>
     requires { IsFound asked.now.test.now findings.old }
     ensures found { IsFound asked.now.test.now findings.new }
-    ensures grows { Grows findings.old findings.new }
+    ensures stays { Stays findings.old findings.new }
+    ensures counts { findings.new.candidates ≡ findings.old.candidates }
 {
     let [first, rest @ ..] = left else {
         return Ok(true);

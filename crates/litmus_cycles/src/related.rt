@@ -11,12 +11,6 @@ pub(crate) struct Cost {
     pub edges: usize,
 }
 
-/// What no cycle costs.
-pub(crate) const NO_COST: Cost = Cost {
-    program_order: 0,
-    edges: 0,
-};
-
 impl Cost {
     /// What a cycle of these edges costs.
     pub fn of(edges: &[Edge]) -> Cost {

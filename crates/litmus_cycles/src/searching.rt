@@ -1,8 +1,10 @@
 //! The search through all candidates of a demand: each hart's way, then one open choice after the other.
 
-ghost use Rattle.std.specs.Prelude.{◌≡◌, ◌≤◌, ◌++◌, [], ◌∷◌, IfOk, IfSome, OnOk, None, true, false, length};
+ghost use Rattle.std.specs.Prelude.{◌≡◌, ◌≤◌, ◌++◌, [], ◌∷◌, IfOk, IfSome, OnOk, None, true, false, length, filter, min, ◌^◌, ◌-◌, if◌then◌else◌};
 ghost use Rattle.litmus_cycles.specs.Choices.{accesses_of, may_choose, with_choice, all_open, events_of, undecided, undecided_all};
-ghost use Rattle.litmus_cycles.specs.Searched.{IsFound, Grows, Counted, IsSearched, AreSearched};
+ghost use Rattle.litmus_cycles.specs.Choices.{come};
+ghost use Rattle.litmus_cycles.specs.Counts.{count_of, count_behind, combinations, is_ruled_out};
+ghost use Rattle.litmus_cycles.specs.Searched.{IsFound, Stays, Searches, HasCounted, AreSearched, is_wanted, wanted_of, wanted_behind};
 
 use crate::choosing::{may_choose, with_choice};
 use crate::deciding::Asked;
@@ -24,7 +26,7 @@ pub(crate) fn search(
     alloc: Global,
 ) -> Result<Findings, AllocError>
     ensures found { IfOk result (IsFound test.now) }
-    ensures all { IfOk result (AreSearched test.now runs.now [] demand runs.now.harts.items) }
+    ensures all { IfOk result (AreSearched test.now runs.now demand) }
 {
     let all = search_by(test, runs, demand, false, alloc)?;
     if all.is_whole {
@@ -42,7 +44,7 @@ pub(crate) fn search_by(
     alloc: Global,
 ) -> Result<Findings, AllocError>
     ensures found { IfOk result (IsFound test.now) }
-    ensures all { IfOk result (AreSearched test.now runs.now [] demand runs.now.harts.items) }
+    ensures all { IfOk result (AreSearched test.now runs.now demand) }
 {
     let mut findings = Findings::new(gives_up, runs.is_whole);
     choose_ways(
@@ -69,8 +71,10 @@ fn choose_ways(
 ) -> Result<(), AllocError>
     requires { IsFound test.now findings.old }
     ensures found { IsFound test.now findings.new }
-    ensures grows { Grows findings.old findings.new }
-    ensures all { OnOk result (AreSearched test.now runs.now chosen.now demand left.now findings.new) }
+    ensures all { OnOk result (Searches demand (wanted_behind test.now runs.now demand chosen.now left.now)
+        findings.old findings.new) }
+    ensures counts { OnOk result (HasCounted (count_behind test.now runs.now chosen.now left.now) findings.old
+        findings.new) }
 {
     if is_passed_over(test, runs, demand, chosen, findings) {
         return Ok(());
@@ -126,8 +130,9 @@ fn relate(
 ) -> Result<(), AllocError>
     requires { IsFound test.now findings.old }
     ensures found { IsFound test.now findings.new }
-    ensures grows { Grows findings.old findings.new }
-    ensures all { OnOk result (AreSearched test.now runs.now chosen.now demand [] findings.new) }
+    ensures all { OnOk result (Searches demand (wanted_of test.now runs.now demand chosen.now)
+        findings.old findings.new) }
+    ensures counts { OnOk result (HasCounted (count_of test.now runs.now chosen.now) findings.old findings.new) }
 {
     let mut events = Vec::new(alloc);
     if !add_events(runs, 0, chosen, &mut events)? {
@@ -151,9 +156,13 @@ fn relate_events(
 ) -> Result<(), AllocError>
     requires { IsFound asked.now.test.now findings.old }
     ensures found { IsFound asked.now.test.now findings.new }
-    ensures grows { Grows findings.old findings.new }
-    ensures all { OnOk result (IsSearched asked.now.test.now asked.now.runs.now asked.now.chosen.now asked.now.demand
-        (all_open events.now 0 (length asked.now.test.now.words.items)) events.now findings.new) }
+    ensures all { OnOk result (Searches asked.now.demand
+        (filter (is_wanted asked.now.test.now asked.now.runs.now asked.now.chosen.now asked.now.demand)
+        (come asked.now.test.now (all_open events.now 0 (length asked.now.test.now.words.items)) events.now))
+        findings.old findings.new) }
+    ensures counts { OnOk result (HasCounted
+        (if is_ruled_out asked.now.test.now asked.now.runs.now asked.now.chosen.now then 0
+        else combinations events.now (length asked.now.test.now.words.items)) findings.old findings.new) }
 {
     let locations = asked.test.words.len();
     if !are_at_locations(events, locations) {
@@ -169,7 +178,10 @@ fn relate_events(
 }
 
 /// How many candidates these ways have, if the registers don't rule the condition out.
-fn count_asked(asked: &Asked<'_, '_, '_>, events: &[MemoryEvent], locations: usize) -> u64 {
+fn count_asked(asked: &Asked<'_, '_, '_>, events: &[MemoryEvent], locations: usize) -> u64
+    ensures { result ≡ min (if is_ruled_out asked.now.test.now asked.now.runs.now asked.now.chosen.now then 0
+        else combinations events.now locations) (2 ^ 64 - 1) }
+{
     if asked.is_ruled_out() {
         return 0;
     }
@@ -262,9 +274,10 @@ fn decide(
 ) -> Result<(), AllocError>
     requires { IsFound asked.now.test.now findings.old }
     ensures found { IsFound asked.now.test.now findings.new }
-    ensures grows { Grows findings.old findings.new }
-    ensures all { OnOk result (IsSearched asked.now.test.now asked.now.runs.now asked.now.chosen.now asked.now.demand
-        left.now events.now findings.new) }
+    ensures all { OnOk result (Searches asked.now.demand
+        (filter (is_wanted asked.now.test.now asked.now.runs.now asked.now.chosen.now asked.now.demand)
+        (come asked.now.test.now left.now events.now)) findings.old findings.new) }
+    ensures counts { OnOk result (findings.new.candidates ≡ findings.old.candidates) }
 {
     let [first, rest @ ..] = left else {
         return take(asked, events, findings, alloc);
@@ -300,8 +313,10 @@ pub(crate) fn choose(
 ) -> Result<Option<Vec<MemoryEvent>>, AllocError>
     requires { IsFound asked.now.test.now findings.old }
     ensures found { IsFound asked.now.test.now findings.new }
-    ensures grows { Grows findings.old findings.new }
+    ensures stays { Stays findings.old findings.new }
+    ensures counts { findings.new.candidates ≡ findings.old.candidates }
     ensures some { IfOk result (λ made. IfSome made (λ next. next.items ≡ with_choice what choice events.now)) }
+    ensures chosen { IfOk result (λ made. IfSome made (λ next. may_choose asked.now.test.now what choice events.now ≡ true)) }
     ensures none { IfOk result (λ made. made ≡ None → findings.old.gives_up ≡ false
         → may_choose asked.now.test.now what choice events.now ≡ false) }
 {
@@ -325,9 +340,10 @@ fn take(
 ) -> Result<(), AllocError>
     requires { IsFound asked.now.test.now findings.old }
     ensures found { IsFound asked.now.test.now findings.new }
-    ensures grows { Grows findings.old findings.new }
-    ensures all { OnOk result (IsSearched asked.now.test.now asked.now.runs.now asked.now.chosen.now asked.now.demand
-        [] events.now findings.new) }
+    ensures all { OnOk result (Searches asked.now.demand
+        (filter (is_wanted asked.now.test.now asked.now.runs.now asked.now.chosen.now asked.now.demand)
+        (events.now ∷ [])) findings.old findings.new) }
+    ensures counts { OnOk result (findings.new.candidates ≡ findings.old.candidates) }
 {
     if asked.may_end(events) {
         return findings.take(asked.test, asked.demand, events, alloc);

@@ -1,10 +1,11 @@
 //! What is shown of a candidate of which all is decided.
 
-ghost use Rattle.std.specs.Prelude.{◌≡◌, IsTrue, IfOk, IfSome, None, false, ◌&&◌};
+ghost use Rattle.std.specs.Prelude.{◌≡◌, IsTrue, IfOk, IfSome, None, true, false, ◌&&◌};
 ghost use Rattle.litmus_cycles.specs.Explained.{fits, IsJudged};
 ghost use Rattle.litmus_cycles.specs.Executions.{is_candidate};
 ghost use Rattle.litmus_cycles.specs.OneOrder.{is_coherent_execution};
 ghost use Rattle.litmus_cycles.specs.Searched.{meets_demand};
+ghost use Rattle.litmus_cycles.specs.declared.demand.Demand.TheVariants.{Numbers, Coherent, Whole};
 
 use crate::checking::{is_broken, is_candidate, is_cycle, is_order, stays_at_one_location};
 use crate::coherence::{is_coherent, is_whole};
@@ -12,7 +13,7 @@ use crate::cycles::{broken, least_cycle, order_of};
 use crate::demand::Demand;
 use crate::event::MemoryEvent;
 use crate::explanation::Shown;
-use crate::related::{Cost, NO_COST, Ways};
+use crate::related::{Cost, Ways};
 use litmus_tests::LitmusTest;
 use std::alloc::{AllocError, Global};
 
@@ -21,8 +22,10 @@ use std::alloc::{AllocError, Global};
 pub(crate) enum Judged {
     /// It costs less than what is shown so far: it is shown.
     Less(Shown, Cost),
-    /// It costs as much or more.
+    /// It has a cycle too, and costs as much or more.
     More,
+    /// It has no cycle, so it can come: it is shown, and no cycle of another one from here on.
+    Allowed(Shown),
     /// It is shown, and no other one is looked at.
     Last(Shown),
     /// Neither a cycle of it was found, nor an order without one.
@@ -37,7 +40,8 @@ pub(crate) fn judge(
     least: Option<Cost>,
     alloc: Global,
 ) -> Result<Option<Judged>, AllocError>
-    ensures judged { IfOk result (λ judged. IfSome judged (IsJudged test.now)) }
+    ensures judged { IfOk result (λ judged. IfSome judged (IsJudged demand test.now events.now)) }
+    ensures some { IfOk result (λ judged. IfSome judged (λ it. meets_demand demand test.now events.now ≡ true)) }
     ensures none { IfOk result (λ judged. judged ≡ None → meets_demand demand test.now events.now ≡ false) }
 {
     match demand {
@@ -68,7 +72,8 @@ fn fitting(
     least: Option<Cost>,
     alloc: Global,
 ) -> Result<Option<Judged>, AllocError>
-    ensures judged { IfOk result (λ judged. IfSome judged (IsJudged test.now)) }
+    ensures judged { IfOk result (λ judged. IfSome judged (IsJudged Whole test.now events.now)) }
+    ensures some { IfOk result (λ judged. IfSome judged (λ it. fits test.now events.now ≡ true)) }
     ensures none { IfOk result (λ judged. judged ≡ None → fits test.now events.now ≡ false) }
 {
     if !fits(test, events) {
@@ -84,29 +89,25 @@ fn fitting(
         let events = events.to_vec(alloc)?;
         return Ok(Some(Judged::Less(Shown::Cycle { events, edges }, cost)));
     }
-    Ok(Some(execution(test, events, &ways, least, alloc)?))
+    Ok(Some(execution(test, events, &ways, alloc)?))
 }
 
-/// Of a candidate that fits and has no cycle the order of its events: it costs nothing.
+/// Of a candidate that fits and has no cycle the order of its events.
 fn execution(
     test: &LitmusTest,
     events: &[MemoryEvent],
     ways: &Ways,
-    least: Option<Cost>,
     alloc: Global,
 ) -> Result<Judged, AllocError>
     requires { IsTrue (fits test.now events.now) }
-    ensures { IfOk result (IsJudged test.now) }
+    ensures { IfOk result (IsJudged Whole test.now events.now) }
 {
     let order = order_of(ways, alloc)?;
     if !is_order(events, order.as_slice()) {
         return Ok(Judged::Untold);
     }
-    if !is_less(NO_COST, least) {
-        return Ok(Judged::More);
-    }
     let events = events.to_vec(alloc)?;
-    Ok(Judged::Less(Shown::Execution { events, order }, NO_COST))
+    Ok(Judged::Allowed(Shown::Execution { events, order }))
 }
 
 /// Of a candidate that isn't coherent a cycle at one location.
@@ -115,7 +116,8 @@ fn incoherent(
     events: &[MemoryEvent],
     alloc: Global,
 ) -> Result<Option<Judged>, AllocError>
-    ensures judged { IfOk result (λ judged. IfSome judged (IsJudged test.now)) }
+    ensures judged { IfOk result (λ judged. IfSome judged (IsJudged Numbers test.now events.now)) }
+    ensures some { IfOk result (λ judged. IfSome judged (λ it. is_candidate test.now events.now ≡ true)) }
     ensures none { IfOk result (λ judged. judged ≡ None → is_candidate test.now events.now ≡ false) }
 {
     if !is_candidate(test, events) {
@@ -136,7 +138,9 @@ fn atomicity(
     events: &[MemoryEvent],
     alloc: Global,
 ) -> Result<Option<Judged>, AllocError>
-    ensures judged { IfOk result (λ judged. IfSome judged (IsJudged test.now)) }
+    ensures judged { IfOk result (λ judged. IfSome judged (IsJudged Coherent test.now events.now)) }
+    ensures some { IfOk result (λ judged. IfSome judged (λ it.
+        (is_candidate test.now events.now && is_coherent_execution events.now) ≡ true)) }
     ensures none { IfOk result (λ judged. judged ≡ None
         → (is_candidate test.now events.now && is_coherent_execution events.now) ≡ false) }
 {
