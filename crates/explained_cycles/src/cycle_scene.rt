@@ -1,5 +1,5 @@
-//! The execution that an explanation shows, as boxes and arrows: po and co from each event to the next, rf to each read,
-//! and those of the cycle, which are thick and drawn last.
+//! The execution that an explanation shows, as boxes and arrows: po and co from each event to the next, rf to each
+//! read, and those of the cycle, which are thick and drawn last.
 
 use crate::naming::{instruction_of, write_access, write_event_name};
 use crate::scene::{Arrow, Heading, Scene, Shape, mark, none_of, start_text, write_word};

@@ -17,9 +17,9 @@ use std::io::Write;
 use style::{STYLE, write_legend};
 use svg_drawing::{write_begin, write_end, write_shown_text, write_style};
 
-/// Draws a scene as one SVG file (docs/FORMATS.md): a column a hart, with its accesses one below the other, what is there at
-/// the start above and what is there at the end below them, and arrows with their relations, which go round all boxes. An
-/// error is the one that `out` answered, or want of memory.
+/// Draws a scene as one SVG file (docs/FORMATS.md): a column a hart, with its accesses one below the other, what is
+/// there at the start above and what is there at the end below them, and arrows with their relations, which go round
+/// all boxes. An error is the one that `out` answered, or want of memory.
 pub(crate) fn draw<W: Write>(scene: &Scene, out: &mut W, alloc: Global) -> io::Result<()> {
     let routes = Routes::of(scene, alloc)?;
     let layout = Layout::of(scene, &routes);

@@ -1,5 +1,6 @@
-//! An execution that comes, as boxes and arrows: a row for each access in its order, po to the next one of its hart, rf to
-//! each read, co from each write to the next one of its bytes, and fr from each read to the next write of its bytes.
+//! An execution that comes, as boxes and arrows: a row for each access in its order, po to the next one of its hart,
+//! rf to each read, co from each write to the next one of its bytes, and fr from each read to the next write of its
+//! bytes.
 
 use crate::naming::{write_location, write_number};
 use crate::scene::{Arrow, Heading, Scene, Shape, mark, none_of, start_text};
@@ -210,8 +211,8 @@ fn push_sources(earlier: &[Row], row: &Row, to: usize, arrows: &mut Vec<Arrow>) 
     Ok(())
 }
 
-/// po from the access of its hart before it; co from the write of its bytes before it; fr from each read of its bytes since
-/// that.
+/// po from the access of its hart before it; co from the write of its bytes before it; fr from each read of its bytes
+/// since that.
 fn push_before(earlier: &[Row], row: &Row, to: usize, arrows: &mut Vec<Arrow>) -> io::Result<()> {
     let written = written_span(&row.deed);
     for (from, before) in earlier.iter().enumerate() {
@@ -239,7 +240,8 @@ fn has_hart(rows: &[Row], hart: u8) -> bool {
     rows.iter().any(|row| row.hart == hart)
 }
 
-/// How an access is related to the next write of its bytes, if that is this one: co where it writes them, fr where it reads.
+/// How an access is related to the next write of its bytes, if that is this one: co where it writes them, fr where it
+/// reads.
 fn overwrites(between: &[Row], before: &Row, written: Option<Span>) -> Option<Relation> {
     let written = written?;
     let own = written_span(&before.deed);

@@ -1,9 +1,9 @@
-//! Why a final state of a litmus test can't come, or how one comes, as it is told: as lines of text, and as a picture in
-//! which each access is a box and each relation an arrow.
+//! Why a final state of a litmus test can't come, or how one comes, as it is told: as lines of text, and as a picture
+//! in which each access is a box and each relation an arrow.
 //!
 //! Read in this order: `naming` (how events, relations and numbers are called), `verdict` (the sentence above all),
-//! `writing` (the lines), `scene` (what a picture shows), `cycle_scene` and `execution` (that of an explanation, and of the
-//! rows of a story), `drawing` (the picture, over `svg_drawing`). It is only tested.
+//! `writing` (the lines), `scene` (what a picture shows), `cycle_scene` and `execution` (that of an explanation, and
+//! of the rows of a story), `drawing` (the picture, over `svg_drawing`). It is only tested.
 #![tactic(auto)]
 
 mod cycle_scene;

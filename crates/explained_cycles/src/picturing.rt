@@ -9,8 +9,8 @@ use std::io;
 use std::io::Write;
 use stories::Row;
 
-/// Draws the execution that an explanation shows as one SVG file (docs/FORMATS.md). Where none is shown, the picture says
-/// so. An error is the one that `out` answered, or want of memory.
+/// Draws the execution that an explanation shows as one SVG file (docs/FORMATS.md). Where none is shown, the picture
+/// says so. An error is the one that `out` answered, or want of memory.
 pub fn draw_explanation<W: Write>(
     test: &LitmusTest,
     explanation: &Explanation,

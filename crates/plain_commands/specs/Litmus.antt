@@ -36,15 +36,16 @@ IsWhy true false settings image test command listed text = Unit {0}
 abbrev pub can_come : LitmusTest → List Told → Bool
 can_come test listed = nat_lt 0 (holding (states_in test listed) test.condition)
 
--- The states are printed that these outcomes are; behind them `stuck`, where there is an order to a state that has no way
--- to an end, else `always can end`; and behind that why, where that is asked.
+-- The states are printed that these outcomes are; behind them `stuck`, where there is an order to a state that has no
+-- way to an end, else `always can end`; and behind that why, where that is asked.
 pub record IsTold (settings : Settings) (image : ProgramImage) (test : LitmusTest) (command : LitmusCommand)
     (found : Found) (old new : Option (List ℕ)) : Type 0 where
   pub why : List ℕ
   pub is_why : IsWhy command.why (can_come test found.listed) settings image test command found.listed why
   pub printed : Appends old new (states_text test found.listed ++ (ends_text (is_some found.stuck) ++ why))
 
--- The order of the state that the command names is written, where neither a picture is written nor, before it, the image.
+-- The order of the state that the command names is written, where neither a picture is written nor, before it, the
+-- image.
 abbrev pub IsStateTold : Settings → ProgramImage → LitmusTest → LitmusCommand → (List ℕ → Type 0) → List Told → Type 0
 IsStateTold settings image test command Put listed = is_some command.svg ≡ false
     → HasWrittenState settings image test command Put (state_asked command) listed
@@ -54,9 +55,9 @@ abbrev pub KeepsImage : LitmusTest → LitmusCommand → ProgramImage → (List 
 KeepsImage test command image Put = is_some command.image ≡ true → is_some command.svg ≡ false
     → is_some command.outcome ≡ false → Put (test_file test image)
 
--- All final states are printed: those in which the test's image can end, whatever order its harts take, each
--- of them an end of some order, and listed once; and every core that runs the image ends in one of them. What is said of
--- stuck states is so (`IsExactList`): of `stuck`, that order leads to where no order leads on to an end; of `always can
+-- All final states are printed: those in which the test's image can end, whatever order its harts take, each of them
+-- an end of some order, and listed once; and every core that runs the image ends in one of them. What is said of stuck
+-- states is so (`IsExactList`): of `stuck`, that order leads to where no order leads on to an end; of `always can
 -- end`, some order leads on to one from wherever an order leads to. The order of the state that the command names is
 -- written: `Put` says what was.
 pub record PrintsAllStates (test : LitmusTest) (settings : Settings) (command : LitmusCommand)
@@ -104,7 +105,8 @@ IsTextRefusal text (reasons.Litmus place fault) = IsPlaceIn text place × IsNoTe
 IsTextRefusal text reasons.Memory = Unit {0}
 IsTextRefusal text _ = ⊥
 
--- What is refused of a picture, and of states that are told: a picture is wanted, and there is nothing to draw, or too much.
+-- What is refused of a picture, and of states that are told: a picture is wanted, and there is nothing to draw, or too
+-- much.
 abbrev pub IsPictureRefusal : Refused → Type 0
 IsPictureRefusal reasons.NothingToDraw = Unit {0}
 IsPictureRefusal reasons.LongStory = Unit {0}

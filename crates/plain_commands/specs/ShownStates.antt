@@ -27,8 +27,8 @@ shows ForAll holds = not holds
 abbrev pub is_shown : LitmusTest → Told → Bool
 is_shown test told = passes test told && shows test.quantifier (holds_of test told)
 
--- An outcome with this order is such a state; of those before a place in the list none has a shorter order, and none that
--- stands before it one as short.
+-- An outcome with this order is such a state; of those before a place in the list none has a shorter order, and none
+-- that stands before it one as short.
 pub record IsShortestAt (test : LitmusTest) (listed : List Told) (place : ℕ) (shortest : Shortest) : Type 0 where
   pub told : Told
   pub stands : slice_get listed shortest.index ≡ Some told

@@ -65,16 +65,17 @@ pub fn perform_litmus<G: Gate, S: EndFiles, W: Write>(
     }
 }
 
-/// Writes every final state of a litmus test, whether they are as it asks, whether its harts may wait for ever,
-/// and, where that is wanted, why its condition holds of none, or how it comes to hold of one. The states are the outcomes
-/// of the test's image, for as many harts as it has. The image goes into `file` before the states are looked for, where it
-/// is wanted; a picture of why or how, and what is wanted of the order of a state, before anything is printed.
+/// Writes every final state of a litmus test, whether they are as it asks, whether its harts may wait for ever, and,
+/// where that is wanted, why its condition holds of none, or how it comes to hold of one. The states are the outcomes
+/// of the test's image, for as many harts as it has. The image goes into `file` before the states are looked for,
+/// where it is wanted; a picture of why or how, and what is wanted of the order of a state, before anything is
+/// printed.
 ///
-/// Answers the exit status: 0, or 3 where there are more states than were to be looked at; then only that
-/// is said, and no order is written. `NothingToDraw` is answered where a picture is wanted and no execution was found that
-/// has a cycle, or the condition of a `forall` holds of each state, `LongStory` where the picture would have too many rows,
-/// and `NoOutcome`, or what `perform_schedule` refuses, of an order; then nothing is printed. `Output` is answered where
-/// `out` or `file` failed.
+/// Answers the exit status: 0, or 3 where there are more states than were to be looked at; then only that is said, and
+/// no order is written. `NothingToDraw` is answered where a picture is wanted and no execution was found that has a
+/// cycle, or the condition of a `forall` holds of each state, `LongStory` where the picture would have too many rows,
+/// and `NoOutcome`, or what `perform_schedule` refuses, of an order; then nothing is printed. `Output` is answered
+/// where `out` or `file` failed.
 #[inline(never)]
 pub fn perform_test<G: Gate, S: EndFiles, W: Write>(
     test: &LitmusTest,

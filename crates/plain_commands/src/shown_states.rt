@@ -1,5 +1,5 @@
-//! Which final state of a litmus test shows how its condition comes to hold, or of a `forall` not to hold: the first of those
-//! with the shortest order.
+//! Which final state of a litmus test shows how its condition comes to hold, or of a `forall` not to hold: the first
+//! of those with the shortest order.
 
 ghost use Rattle.std.specs.Prelude.{◌≡◌, ◌+◌, ◌<◌, ◌&&◌, IfOk, IfErr, IfSome, Some, length, slice_get};
 ghost use Rattle.litmus_images.specs.Watching.{final_state};

@@ -1,5 +1,5 @@
-//! The order of harts that leads to a final state of a litmus test, which the command `litmus` writes as `outcomes` writes
-//! that of an outcome. Its story has the test's names, and the state's line behind it.
+//! The order of harts that leads to a final state of a litmus test, which the command `litmus` writes as `outcomes`
+//! writes that of an outcome. Its story has the test's names, and the state's line behind it.
 
 ghost use Rattle.std.specs.Prelude.{◌≡◌, ◌⊎◌, ◌<◌, ◌≤◌, ◌-◌, IfOk, IfErr, IfSome, IfNone, OnOk, Some, None, true, false};
 ghost use Rattle.std.specs.Prelude.{length, option_map, slice_get};

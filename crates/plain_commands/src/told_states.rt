@@ -1,5 +1,5 @@
-//! How the condition of a litmus test comes to hold, or of a `forall` not to hold: the line of the state that shows it, and
-//! the story of its order, which is that which `--story` writes of it; or the execution as a picture.
+//! How the condition of a litmus test comes to hold, or of a `forall` not to hold: the line of the state that shows
+//! it, and the story of its order, which is that which `--story` writes of it; or the execution as a picture.
 
 ghost use Rattle.std.specs.Prelude.{◌≡◌, ◌<◌, ◌≤◌, IfOk, IfErr, OnOk, Some, true, length, option_map, slice_get};
 ghost use Rattle.std.specs.Io.KnownBytes.{Appends};
@@ -32,8 +32,8 @@ use std::io::Write;
 use stories::Row;
 use symbols::Symbols;
 
-/// How the condition comes to hold of a state, or of a `forall` not to hold of one: the state's line, and the story of its
-/// order. Where the condition of a `forall` holds of each state, that.
+/// How the condition comes to hold of a state, or of a `forall` not to hold of one: the state's line, and the story of
+/// its order. Where the condition of a `forall` holds of each state, that.
 pub(crate) fn tell_shown(
     test: &LitmusTest,
     image: &Image,

@@ -1,5 +1,5 @@
-//! Why the condition of a litmus test holds of no state, or how it comes to hold of one, as the command `litmus` tells and
-//! draws it.
+//! Why the condition of a litmus test holds of no state, or how it comes to hold of one, as the command `litmus` tells
+//! and draws it.
 
 ghost use Rattle.std.specs.Prelude.{◌≡◌, IfErr, IfOk, OnOk, is_some, true, false};
 ghost use Rattle.litmus_tests.specs.WellFormed.{IsWellFormed};
@@ -17,8 +17,8 @@ use sim_inputs::{LitmusCommand, Settings};
 use std::alloc::{AllocError, Global};
 use stress_runs::EndFiles;
 
-/// What is said of why the condition holds of no state, or how it comes to hold of one, where that is wanted; and where a
-/// picture is, that drawn into the file.
+/// What is said of why the condition holds of no state, or how it comes to hold of one, where that is wanted; and
+/// where a picture is, that drawn into the file.
 pub(crate) fn told_why<S: EndFiles>(
     test: &LitmusTest,
     image: &Image,

@@ -20,8 +20,8 @@ const BESIDE: u32 = 52;
 
 const TRACK: u32 = 24;
 
-/// The room above a row without lanes, and how much one adds; and how much more is above the first row, for the names of
-/// harts.
+/// The room above a row without lanes, and how much one adds; and how much more is above the first row, for the names
+/// of harts.
 const ABOVE: u32 = 40;
 
 const LANE: u32 = 16;
@@ -65,8 +65,8 @@ impl Corner {
         self.x.saturating_add(self.width / 2)
     }
 
-    /// The height at which an arrow of a relation leaves it to a track. What goes to the left stands lower, so that no two
-    /// arrows lie upon each other.
+    /// The height at which an arrow of a relation leaves it to a track. What goes to the left stands lower, so that no
+    /// two arrows lie upon each other.
     pub fn leaving(&self, relation: Relation, x: u32) -> u32 {
         let below = match relation {
             Relation::ReadsFrom => 4,

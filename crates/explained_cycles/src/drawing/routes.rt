@@ -1,5 +1,5 @@
-//! By which ways arrows go: in the rooms between the columns, each on a track of its own, and in the rooms between the rows,
-//! each on a lane of its own. So none crosses a box, and no name stands over another.
+//! By which ways arrows go: in the rooms between the columns, each on a track of its own, and in the rooms between the
+//! rows, each on a lane of its own. So none crosses a box, and no name stands over another.
 
 use crate::scene::{Arrow, Scene, Shape};
 use litmus_cycles::Relation;
