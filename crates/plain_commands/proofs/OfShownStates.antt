@@ -1,5 +1,5 @@
 -- The state that shows how a condition comes to hold: the shortest so far, its line, and its story.
-use Rattle.std.proofs.Common.{◌≡◌, ◌⊎◌, ℕ, zero, suc, ◌+◌, ◌<◌, ◌≤◌, Bool, true, false, ◌&&◌, List, [], ◌∷◌, ◌++◌, length, take}
+use Rattle.std.proofs.Common.{◌≡◌, ◌⊎◌, ℕ, zero, suc, ◌+◌, ◌<◌, ◌≤◌, Bool, true, false, ◌&&◌, List, [], ◌∷◌, length, take}
 use Rattle.std.proofs.Common.{refl, sym, ap, subst, ◌∙◌, arith, slice_get, Option, Some, None, IfSome, filter, inl, inr}
 use Rattle.std.proofs.lemmas.Option.{same_Some, slice_get_within}
 use Rattle.std.proofs.lemmas.List.Sums.{count_by_more_yes, count_by_more_no, length-filter}
@@ -11,12 +11,12 @@ use Rattle.core_state.specs.Setup.{setup_of}
 use Rattle.outcomes.specs.{Found.Told, Told.order_listed}
 use Rattle.litmus_tests.specs.declared.test.LitmusTest.{LitmusTest}
 use Rattle.litmus_files.specs.File.{test_file}
-use Rattle.litmus_text.specs.{State.told_line, States.holds_of, States.passes, States.told_in}
+use Rattle.litmus_text.specs.{State.told_line, States.holds_of, States.passes}
 use Rattle.sim_inputs.specs.{declared.settings.Settings.Settings, declared.line.LitmusCommand.LitmusCommand}
 use Rattle.symbols.specs.Tables.{AreNamesOf, Table}
 use Rattle.std.proofs.Common.{option_map, count_by, get_or}
 use Rattle.plain_commands.specs.{StateOrders.state_plan, WrittenOrders.IsStoryOf}
-use Rattle.plain_commands.specs.ShownStates.{IsShortest, IsShortestAt, IsStateStory, is_shown, shows}
+use Rattle.plain_commands.specs.ShownStates.{IsHowTold, IsShortest, IsShortestAt, IsStateShown, IsStateStory, is_shown, shows}
 use Rattle.plain_commands.specs.declared.shown_states.Shortest.{Shortest}
 
 less_or_same : (m n : ℕ) → m < n + 1 → (m < n) ⊎ (m ≡ n)
@@ -220,3 +220,21 @@ module _ (settings : Settings) (image : ProgramImage) (test : LitmusTest) (comma
         named = subst (λ (f : List ℕ). AreNamesOf f names) is_file named;
         is = rw (same_order, sym (lined told stood)) is;
       }
+
+-- ---- What is told
+
+module _ (settings : Settings) (image : ProgramImage) (test : LitmusTest) (command : LitmusCommand) (listed : List Told)
+    where
+  pub how_told : (found : Option Shortest) (shortest : Shortest) (text : List ℕ) → found ≡ Some shortest
+      → IsShortest test listed (length listed) found
+      → ((told : Told) → slice_get listed shortest.index ≡ Some told → passes test told ≡ true
+          → IsStateShown settings image test command listed told text)
+      → IsHowTold settings image test command listed text
+  how_told found shortest text some is shown =
+      let at : IsShortestAt test listed (length listed) shortest =
+      subst (λ (s : Option Shortest). IsShortest test listed (length listed) s) some is in
+      inl (record {
+        shortest = shortest;
+        is_shortest = at;
+        shown = shown at.told at.stands (is_state_shown test at.told at.shown);
+      })

@@ -1,4 +1,4 @@
-use Rattle.std.proofs.Common.{◌≡◌, ◌<◌, ◌≤◌, length, arith, refl, ap, ◌∙◌, take, count_by}
+use Rattle.std.proofs.Common.{◌≡◌, ◌<◌, length, arith, ap, ◌∙◌, take, count_by}
 use Rattle.litmus_text.specs.States.{passes}
 use Rattle.plain_commands.proofs.OfShownStates.{counted, line_is}
 use Rattle.plain_commands.proofs.told_states.states_before.Goals as goal
