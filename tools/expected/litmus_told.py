@@ -188,7 +188,7 @@ def told_of(program, text, folder):
     done = subprocess.run([program, "litmus", f"{folder}/test", "--why"], capture_output=True, text=True, check=True)
     lines = done.stdout.split("\n")[:-1]
     behind = next(k for k, line in enumerate(lines) if line in ("always can end", "stuck"))
-    return [] if lines[-1].startswith("why: ") else lines[behind + 1:]
+    return [] if lines[behind + 1].startswith("why: ") else lines[behind + 1:]
 
 
 def may_be_told(text):

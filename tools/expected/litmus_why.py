@@ -503,17 +503,26 @@ class Found:
         return f"{write} lies between {load} and {store}"
 
     def picture(self):
-        """What the picture has: the harts, what is read of the start, a box an event, and the arrows."""
+        """What the picture has: the harts, what is there at the start and at the end, a box an event, and the arrows."""
         yield f"title {self.test.name}: {self.verdict()}"
         shown, events = self.shown, self.shown.events
         yield from (f"hart {hart} in column {hart}" for hart in range(len(self.test.code)))
-        at_start = {events[r][2].location for r, source in shown.sources.items() if source is None}
-        for name in sorted(at_start):
-            yield f"start {name} {number_text(self.test, starts_of(self.test)[name])}"
+        starts, ends = starts_of(self.test), self.ends()
+        accessed = [name for name in words_of(self.test) if name in {access.location for _, _, access in events}]
+        yield "start " + ", ".join(f"{name} {number_text(self.test, starts[name])}" for name in accessed)
+        yield "end " + ", ".join(f"{name} {number_text(self.test, ends[name])}" for name in accessed)
         for event, (hart, place, access) in enumerate(events):
             text = f"{access_text(self.test, access)} | {instruction_text(self.test, hart, access.step)}"
             yield f"box {letter(event)} in column {hart}, row {place}: {text}"
         yield from sorted(self.arrows())
+
+    def ends(self):
+        """What the words hold at the end: what the last write of each in coherence order has written."""
+        ends = starts_of(self.test)
+        for event in sorted(self.shown.ranks, key=self.shown.ranks.get):
+            access = self.shown.events[event][2]
+            ends[access.location] = access.writes
+        return ends
 
     def arrows(self):
         shown, events = self.shown, self.shown.events
@@ -525,7 +534,7 @@ class Found:
         yield from (f"arrow {letter(a)} {r} {letter(b)}" for a, r, b in thin - thick)
         for read, source in shown.sources.items():
             if source is None:
-                yield f"arrow start {events[read][2].location} rf {letter(read)}"
+                yield f"arrow start rf {letter(read)}"
 
 
 def main(words):

@@ -103,7 +103,7 @@ fn add_asked_fault(
         Refused::Litmus(place, why) => add_litmus(place, why, fault, hint, alloc),
         Refused::NothingToDraw => hint.add(
             Part::Cause,
-            b"the condition holds of a state, or no execution of it was found",
+            b"no candidate of such a state is there to draw, or the condition holds of each state",
         ),
         _ => Ok(()),
     }

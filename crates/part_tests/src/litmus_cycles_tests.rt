@@ -242,7 +242,7 @@ fn drawn(row: &Row, alloc: Global) -> Option<Vec<u8>> {
     let test = test_of(row, alloc).ok()?;
     let explanation = explain_forbidden(&test, alloc).ok()?;
     let mut text = Vec::new(alloc);
-    draw_explanation(&test, &explanation, &mut text).ok()?;
+    draw_explanation(&test, &explanation, &mut text, alloc).ok()?;
     Some(text)
 }
 

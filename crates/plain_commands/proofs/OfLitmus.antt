@@ -103,7 +103,7 @@ module _ (test : LitmusTest) (settings : Settings) (command : LitmusCommand) (im
     (Put : List ℕ → Type 0) (is_kept : KeepsImage test command image Put) (old new : Option (List ℕ)) where
   pub all_told : (found : Found) → InEachSetup image harts (λ setup. IsExactList setup watch found)
       → InEachSetup image harts (λ setup. CoversCores setup watch found) → IsOnce found
-      → (answer : Result ℕ Refused) → OnOk answer (IsTold test command found old new)
+      → (answer : Result ℕ Refused) → OnOk answer (IsTold settings image test command found old new)
       → (is_some command.image ≡ false → OnOk answer (IsStateTold settings image test command Put found.listed))
       → IfOk answer (λ status. status ≡ 0) → IfOk answer (TestComesTo test settings command Put old new)
   all_told found all cores once (Ok status) told written zero = inl (record {

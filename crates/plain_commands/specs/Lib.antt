@@ -3,6 +3,7 @@ pub mod PlainRounds
 pub mod DrawnOrders
 pub mod Schedule
 pub mod StateOrders
+pub mod ShownStates
 pub mod Retiring
 pub mod Questions
 pub mod WrittenOrders

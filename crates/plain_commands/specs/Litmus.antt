@@ -1,6 +1,6 @@
 -- The command `litmus`: every final state of a litmus test. (This project's own choice, after herd.)
 use Rattle.std.specs.Prelude.{◌≡◌, ◌⊎◌, ℕ, nat_lt, Bool, true, false, is_some, List, [], ◌++◌}
-use Rattle.std.specs.Prelude.{Option, codes, length}
+use Rattle.std.specs.Prelude.{Option, length}
 use Rattle.std.specs.Io.KnownBytes.{Appends}
 use Rattle.elf_image.specs.Image.{ProgramImage}
 use Rattle.outcomes.specs.{Found.Found, Found.Told}
@@ -19,6 +19,7 @@ use Rattle.sim_inputs.specs.{declared.settings.Settings.Settings}
 use Rattle.command_parts.specs.declared.refused.Refused.{Refused}
 use Rattle.command_parts.specs.declared.refused.Refused.TheVariants as reasons
 use Rattle.plain_commands.specs.StateOrders.{HasWrittenState, IsStateRefusal, settings_for, state_asked}
+use Rattle.plain_commands.specs.ShownStates.{IsHowTold}
 
 -- The test's image, and what is watched of it.
 pub record IsSearched (test : LitmusTest) (image : ProgramImage) (watch : Watch) : Type 0 where
@@ -26,22 +27,25 @@ pub record IsSearched (test : LitmusTest) (image : ProgramImage) (watch : Watch)
   pub registers : watch.registers.items ≡ registers_observed test.observed.items
   pub words : watch.words.items ≡ words_observed test.locations.items test.observed.items
 
--- What is said of why the condition holds of no state: nothing where that isn't asked, and that it holds of
--- one where it does.
-abbrev pub IsWhy : Bool → Bool → List ℕ → Type 0
-IsWhy false can_come text = text ≡ []
-IsWhy true true text = text ≡ codes "why: the condition holds of a state\n"
-IsWhy true false text = Unit {0}
+-- What is said of why the condition holds of no state, or how it comes to hold of one: nothing where that isn't asked.
+abbrev pub IsWhy : Bool → Bool → Settings → ProgramImage → LitmusTest → LitmusCommand → List Told → List ℕ → Type 0
+IsWhy false can_come settings image test command listed text = text ≡ []
+IsWhy true true settings image test command listed text = IsHowTold settings image test command listed text
+IsWhy true false settings image test command listed text = Unit {0}
 
--- The states are printed that these outcomes are; behind them `stuck`, where there is an order to a state that has no way
--- to an end, else `always can end`; and behind that why, where that is asked.
-pub record IsTold (test : LitmusTest) (command : LitmusCommand) (found : Found)
-    (old new : Option (List ℕ)) : Type 0 where
+abbrev pub can_come : LitmusTest → List Told → Bool
+can_come test listed = nat_lt 0 (holding (states_in test listed) test.condition)
+
+-- The states are printed that these outcomes are; behind them `stuck`, where there is an order to a state that has no
+-- way to an end, else `always can end`; and behind that why, where that is asked.
+pub record IsTold (settings : Settings) (image : ProgramImage) (test : LitmusTest) (command : LitmusCommand)
+    (found : Found) (old new : Option (List ℕ)) : Type 0 where
   pub why : List ℕ
-  pub is_why : IsWhy command.why (nat_lt 0 (holding (states_in test found.listed) test.condition)) why
+  pub is_why : IsWhy command.why (can_come test found.listed) settings image test command found.listed why
   pub printed : Appends old new (states_text test found.listed ++ (ends_text (is_some found.stuck) ++ why))
 
--- The order of the state that the command names is written, where neither a picture is written nor, before it, the image.
+-- The order of the state that the command names is written, where neither a picture is written nor, before it, the
+-- image.
 abbrev pub IsStateTold : Settings → ProgramImage → LitmusTest → LitmusCommand → (List ℕ → Type 0) → List Told → Type 0
 IsStateTold settings image test command Put listed = is_some command.svg ≡ false
     → HasWrittenState settings image test command Put (state_asked command) listed
@@ -51,9 +55,9 @@ abbrev pub KeepsImage : LitmusTest → LitmusCommand → ProgramImage → (List 
 KeepsImage test command image Put = is_some command.image ≡ true → is_some command.svg ≡ false
     → is_some command.outcome ≡ false → Put (test_file test image)
 
--- All final states are printed: those in which the test's image can end, whatever order its harts take, each
--- of them an end of some order, and listed once; and every core that runs the image ends in one of them. What is said of
--- stuck states is so (`IsExactList`): of `stuck`, that order leads to where no order leads on to an end; of `always can
+-- All final states are printed: those in which the test's image can end, whatever order its harts take, each of them
+-- an end of some order, and listed once; and every core that runs the image ends in one of them. What is said of stuck
+-- states is so (`IsExactList`): of `stuck`, that order leads to where no order leads on to an end; of `always can
 -- end`, some order leads on to one from wherever an order leads to. The order of the state that the command names is
 -- written: `Put` says what was.
 pub record PrintsAllStates (test : LitmusTest) (settings : Settings) (command : LitmusCommand)
@@ -66,7 +70,7 @@ pub record PrintsAllStates (test : LitmusTest) (settings : Settings) (command : 
   pub all : InEachSetup image (length test.threads.items) (λ setup. IsExactList setup watch found)
   pub cores : InEachSetup image (length test.threads.items) (λ setup. CoversCores setup watch found)
   pub once : IsOnce found
-  pub told : IsTold test command found old new
+  pub told : IsTold settings image test command found old new
   pub written : is_some command.image ≡ false → IsStateTold settings image test command Put found.listed
   pub zero : exit_status ≡ 0
 
@@ -101,14 +105,17 @@ IsTextRefusal text (reasons.Litmus place fault) = IsPlaceIn text place × IsNoTe
 IsTextRefusal text reasons.Memory = Unit {0}
 IsTextRefusal text _ = ⊥
 
--- What is refused of a picture, and of states that are told: a picture is wanted, and there is nothing to draw.
+-- What is refused of a picture, and of states that are told: a picture is wanted, and there is nothing to draw, or too
+-- much.
 abbrev pub IsPictureRefusal : Refused → Type 0
 IsPictureRefusal reasons.NothingToDraw = Unit {0}
+IsPictureRefusal reasons.LongStory = Unit {0}
 IsPictureRefusal reasons.Memory = Unit {0}
 IsPictureRefusal _ = ⊥
 
 abbrev pub IsStatesRefusal : LitmusCommand → Refused → Type 0
 IsStatesRefusal command reasons.NothingToDraw = is_some command.svg ≡ true
+IsStatesRefusal command reasons.LongStory = is_some command.svg ≡ true
 IsStatesRefusal command reasons.Memory = Unit {0}
 IsStatesRefusal command reasons.Output = Unit {0}
 IsStatesRefusal command _ = ⊥

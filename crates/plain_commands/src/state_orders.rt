@@ -1,5 +1,5 @@
-//! The order of harts that leads to a final state of a litmus test, which the command `litmus` writes as `outcomes` writes
-//! that of an outcome. Its story has the test's names, and the state's line behind it.
+//! The order of harts that leads to a final state of a litmus test, which the command `litmus` writes as `outcomes`
+//! writes that of an outcome. Its story has the test's names, and the state's line behind it.
 
 ghost use Rattle.std.specs.Prelude.{◌≡◌, ◌⊎◌, ◌<◌, ◌≤◌, ◌-◌, IfOk, IfErr, IfSome, IfNone, OnOk, Some, None, true, false};
 ghost use Rattle.std.specs.Prelude.{length, option_map, slice_get};
@@ -110,7 +110,7 @@ fn index_of_state(test: &LitmusTest, outcomes: &Outcomes, state: usize) -> Optio
 }
 
 /// Whether the outcome with this index is a final state of the test.
-fn is_state(test: &LitmusTest, outcomes: &Outcomes, index: usize) -> bool
+pub(crate) fn is_state(test: &LitmusTest, outcomes: &Outcomes, index: usize) -> bool
     requires sound { IsWellFormed test.now }
     requires within { index < length outcomes.now.listed }
     ensures { (told : Told) → slice_get outcomes.now.listed index ≡ Some told
@@ -188,7 +188,7 @@ fn put_named<S: EndFiles>(
 }
 
 /// How the story of a state's order is told, with these names.
-fn form_of<'a>(
+pub(crate) fn form_of<'a>(
     settings: &Settings,
     command: &LitmusCommand<'_>,
     names: &'a Symbols<'a>,
@@ -205,7 +205,7 @@ fn form_of<'a>(
 }
 
 /// The line of the outcome with this index, as it stands among the final states.
-fn line_at(
+pub(crate) fn line_at(
     test: &LitmusTest,
     outcomes: &Outcomes,
     index: usize,
