@@ -224,17 +224,17 @@ module _ (settings : Settings) (image : ProgramImage) (test : LitmusTest) (comma
 -- ---- What is told
 
 module _ (settings : Settings) (image : ProgramImage) (test : LitmusTest) (command : LitmusCommand) (listed : List Told)
-    where
-  pub how_told : (found : Option Shortest) (shortest : Shortest) (text : List ℕ) → found ≡ Some shortest
-      → IsShortest test listed (length listed) found
-      → ((told : Told) → slice_get listed shortest.index ≡ Some told → passes test told ≡ true
-          → IsStateShown settings image test command listed told text)
-      → IsHowTold settings image test command listed text
-  how_told found shortest text some is shown =
-      let at : IsShortestAt test listed (length listed) shortest =
-      subst (λ (s : Option Shortest). IsShortest test listed (length listed) s) some is in
-      inl (record {
-        shortest = shortest;
-        is_shortest = at;
-        shown = shown at.told at.stands (is_state_shown test at.told at.shown);
-      })
+  where
+    pub how_told : (found : Option Shortest) (shortest : Shortest) (text : List ℕ) → found ≡ Some shortest
+        → IsShortest test listed (length listed) found
+        → ((told : Told) → slice_get listed shortest.index ≡ Some told → passes test told ≡ true
+        → IsStateShown settings image test command listed told text)
+        → IsHowTold settings image test command listed text
+    how_told found shortest text some is shown =
+        let at : IsShortestAt test listed (length listed) shortest =
+        subst (λ (s : Option Shortest). IsShortest test listed (length listed) s) some is in
+        inl (record {
+          shortest = shortest;
+          is_shortest = at;
+          shown = shown at.told at.stands (is_state_shown test at.told at.shown);
+        })
