@@ -193,7 +193,7 @@ def told_of(program, text, folder):
 
 def may_be_told(text):
     """All that may be told of a test: each of the candidates that may be shown, with each of its cycles."""
-    found = litmus_why.Found(litmus_reading.read(text))
+    found = litmus_why.Found(litmus_reading.read(text), None)
     if not found.showable:
         return [list(found.lines())]
     told = []

@@ -432,14 +432,12 @@ def is_any(candidates):
     return next(candidates, None) is not None
 
 
-def one_or_two(found):
-    return list(itertools.islice(found, 2))
-
-
 class Found:
-    """All candidates, by what excludes them, and those of which one is shown: each with a cycle, or what is broken."""
+    """All candidates, by what excludes them, and those of which one is shown: each with a cycle, or what is broken. Of
+    those that break coherence or atomicity so many are looked for: two say that there are several; all, where it is
+    None."""
 
-    def __init__(self, test):
+    def __init__(self, test, most=2):
         self.test, self.showable = test, []
         self.count = sum(count(events) for events, _ in chosen_ways(test))
         self.fitting = list(meeting(test, lambda c: c.is_coherent() and not any(c.broken())))
@@ -454,12 +452,13 @@ class Found:
                 self.showable = [(c, way) for c, cost, ways in told if cost == least for way in ways]
         elif is_any(coherent):
             self.why = "atomicity"
-            self.showable = one_or_two((c, one) for c in meeting(test, Candidate.is_coherent) for one in c.broken())
+            broken = ((c, one) for c in meeting(test, Candidate.is_coherent) for one in c.broken())
+            self.showable = list(itertools.islice(broken, most))
         elif is_any(meeting(test)):
             self.why = "coherence"
             told = meeting(test, Candidate.writes_in_order) if is_any(in_order) else meeting(test)
-            self.showable = one_or_two(
-                (c, way) for c in told for way in c.cycles(lambda a, b: a.location == b.location)[1])
+            cycles = ((c, way) for c in told for way in c.cycles(lambda a, b: a.location == b.location)[1])
+            self.showable = list(itertools.islice(cycles, most))
         else:
             self.why = "numbers"
         self.shown = self.way = self.break_ = None
