@@ -2,6 +2,7 @@
 """What is open in the proofs of a crate, in half a minute where its libraries stand.
 
     open_goals.py --take                 takes the libraries that `rt ci` has proved on this machine of the sources as they stand here
+    open_goals.py --take CLONE           takes those that `rt ci` has left in that clone, also while it runs: where the kit's `rt` keeps none
     open_goals.py CRATE [FUNCTION ..]    checks the crate, or these of its functions (crate::module::function), past what is open;
                                          of a crate of tests its tests too
     open_goals.py --make CRATE           makes the library of a crate that was proved here, for a check of those above it
@@ -33,7 +34,8 @@ def command_of_kit():
     module.Crate.cuts_libraries = True
     module.Crate.allowed = module.handles_of(ROOT)
     # An entry that can't be taken stays there for those who can.
-    module.Kept.drop = lambda self, path: None
+    if hasattr(module, "Kept"):
+        module.Kept.drop = lambda self, path: None
     return module
 
 
@@ -41,6 +43,9 @@ def take_libraries():
     """Takes each library that is kept and whose own libraries stand here, lowest first. Says which."""
     os.chdir(ROOT)
     command = command_of_kit()
+    if not hasattr(command, "Kept"):
+        print("this kit's `rt ci` keeps nothing: name the clone in which it runs", file=sys.stderr)
+        return 1
     crates = command.crates_of(ROOT)
     kept = command.Kept(crates)
     standing, taken = set(), []
@@ -58,6 +63,38 @@ def take_libraries():
         kept.is_built(crate)
         standing.add(crate.name)
     print(f"{len(taken)} taken, {len(standing)} stand: {' '.join(taken)}")
+    return 0
+
+
+def is_same(crate, clone):
+    """Whether a crate's sources are those of the clone."""
+    for part in ("src", "specs", "proofs"):
+        here, there = (f"{folder}/crates/{crate}/{part}" for folder in (ROOT, clone))
+        if os.path.isdir(here) != os.path.isdir(there):
+            return False
+        if os.path.isdir(here) and subprocess.run(["diff", "-rq", here, there], capture_output=True, check=False).returncode:
+            return False
+    return True
+
+
+def take_from(clone):
+    """Takes each library that stands in the clone, of sources that are the same here with all below them. Says which."""
+    uses = CrateList().uses
+    fits, taken = {}, []
+
+    def can_take(crate):
+        if crate not in fits:
+            stands = os.path.isdir(f"{clone}/crates/{crate}/out/rlib/{crate}.rlib")
+            fits[crate] = stands and is_same(crate, clone) and all(can_take(below) for below in uses[crate])
+        return fits[crate]
+
+    for crate in uses:
+        if can_take(crate):
+            to = f"{ROOT}/crates/{crate}/out/rlib"
+            shutil.rmtree(to, ignore_errors=True)
+            shutil.copytree(f"{clone}/crates/{crate}/out/rlib", to, symlinks=True, copy_function=os.link)
+            taken.append(crate)
+    print(f"{len(taken)} taken: {' '.join(taken)}")
     return 0
 
 
@@ -100,6 +137,8 @@ def main(words):
     match words:
         case ["--take"]:
             return take_libraries()
+        case ["--take", clone]:
+            return take_from(os.path.abspath(clone))
         case ["--make", crate]:
             folder = f"{ROOT}/crates/{crate}/out/rlib"
             shutil.rmtree(folder, ignore_errors=True)

@@ -120,6 +120,19 @@ PROGRAMS = {
     "bytes_before_a_load": [
         0x80001337, 0x00051663, 0x00130283, 0x00100073, 0x00700293, 0x005300A3, 0x00530023, 0x00100073,
     ],
+    # auipc x6,0; addi x6,x6,256; lr.w x5,(x6); lw x7,4(x6); bne x7,x0,+8; addi x9,x6,8; amoadd.w x7,x6,(x9); jal x1,+20;
+    # sc.w x8,x6,(x6); addi x10,x8,0; addi x17,x0,93; ecall; jalr x0,0(x1): between LR and SC stand a load, a branch, an
+    # AMO and a call
+    "reserves_across_a_call": [
+        0x00000317, 0x10030313, 0x100322AF, 0x00432383, 0x00039463, 0x00830493, 0x0064A3AF, 0x014000EF, 0x1863242F,
+        0x00040513, 0x05D00893, 0x00000073, 0x00008067,
+    ],
+    # auipc x6,0; addi x6,x6,256; addi x7,x6,4; lr.w x5,(x6); bne x10,x0,+8; lr.w x5,(x7); sc.w x8,x6,(x6); sc.w x9,x6,(x7);
+    # slli x9,x9,1; add x10,x8,x9; addi x17,x0,93; ecall: hart 0 reserves a second word behind the first, and then stores to both
+    "reserves_twice": [
+        0x00000317, 0x10030313, 0x00430393, 0x100322AF, 0x00051463, 0x1003A2AF, 0x1863242F, 0x1863A4AF, 0x00149493,
+        0x00940533, 0x05D00893, 0x00000073,
+    ],
     # lui x5,0x10; sw x0,12(x5): outside RAM
     "store_below_ram": [0x000102B7, 0x0002A623],
     # 40 times addi x5,x5,1; all in a chain

@@ -3,11 +3,9 @@
     python3 tools/expected/outcomes_compare.py PROGRAM [COUNT] [SEED]
 
 Small programs of two or three harts: loads, stores, LR, SC, AMO, branches, output, ends and stops; one in
-three also writes its own code. What is printed has to be the same, but for the number of states; that one too where the code is writable and
-nothing is watched, since then no steps are made at once, and only a hart that goes on has registers that
-matter. Each order that is asked for has to end
-as its outcome says, on the plain machine. Programs of more than 20,000 states are left out. Prints how
-many agree, and ends with status 1 where one doesn't.
+three also writes its own code. What is printed has to be the same, and the number of states that of `condensed.py`.
+Each order that is asked for has to end as its outcome says, on the plain machine. Programs of more than 20,000 states are
+left out. Prints how many agree, and ends with status 1 where one doesn't.
 """
 
 import os
@@ -16,9 +14,9 @@ import subprocess
 import sys
 import tempfile
 
+import condensed
 import every_order
 import image
-from outcomes import frozen, thawed
 from plain import Plain
 from random_words import branch
 
@@ -122,29 +120,6 @@ def ends_so(made, harts, order, wanted, watch, exists):
     return not machine.going() and every_order.line(found, columns) == wanted
 
 
-def plain_states(made, harts):
-    """How many states there are, but for the registers of harts that don't go on."""
-
-    def state(machine):
-        machine.memory = {at: byte for at, byte in machine.memory.items() if byte != made.byte(at)}
-        stands = zip(machine.registers, machine.statuses)
-        machine.registers = [numbers if status == ("going",) else [0] * 32 for numbers, status in stands]
-        return frozen(machine)
-
-    start = state(Plain(made, harts))
-    seen, waiting = {start}, [start]
-    while waiting:
-        here = waiting.pop()
-        for hart in thawed(made, here).going():
-            machine = thawed(made, here)
-            machine.step(hart)
-            there = state(machine)
-            if there not in seen:
-                seen.add(there)
-                waiting.append(there)
-    return len(seen)
-
-
 def agrees(program, folder, seed, k):
     """Whether the program says the same of program k; None where it has too many states."""
     harts, file, watch, exists = inputs_of(seed, k)
@@ -164,9 +139,9 @@ def agrees(program, folder, seed, k):
     status = 1 if wanted[-1] == "exists: no" else 0
     if (found, done.stderr, done.returncode) != (wanted, "", status):
         return False
-    if made.is_writable and not watch and exists is None:
-        if f"states {plain_states(made, harts)}" not in done.stdout.splitlines():
-            return False
+    counted = condensed.states(made, harts, every_order.columns_of(watch, exists))
+    if f"states {counted}" not in done.stdout.splitlines():
+        return False
     count = next(n for n, text in enumerate(wanted) if text.startswith("outcomes "))
     for place in random.Random(k).sample(range(count), min(count, 2)):
         subprocess.run([*line, "--outcome", str(place + 1), "--witness", "order"], cwd=folder, capture_output=True, check=False)

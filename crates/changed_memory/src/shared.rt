@@ -1,4 +1,5 @@
-ghost use Rattle.std.specs.Prelude.{◌≡◌, ℕ, ◌<◌, None, [], IfOk, OnOk};
+ghost use Rattle.std.specs.Prelude.{◌≡◌, ℕ, ◌<◌, ◌==◌, if◌then◌else◌, None, [], IfOk, OnOk, is_some};
+ghost use Rattle.numbers.specs.Sizes.{most_harts};
 ghost use Rattle.shared_memory.specs.Contents.{IsStart};
 ghost use Rattle.smt_model.specs.Bytes.{number_at};
 ghost use Rattle.smt_model.specs.Faults.{read_fault};
@@ -10,7 +11,7 @@ ghost use Rattle.changed_memory.specs.SameLaws.{same_is_equivalence, same_is_par
 use crate::change::Change;
 use crate::changes::change_at;
 use numbers::sizes::HART_ROOM;
-use shared_memory::{Memory, Reservations};
+use shared_memory::{Memory, Reservations, held_by};
 use std::alloc::{AllocError, Global};
 use std::hash::{Hash, Hasher};
 use std::marker::Model;
@@ -72,6 +73,25 @@ impl SharedState {
         self.reserved = other.reserved;
         self.output.clear();
         self.output.extend_from_slice(other.output.as_slice())
+    }
+
+    /// Whether a hart has a reservation.
+    pub fn has_reservation(&self, hart: u8) -> bool
+        requires { hart < most_harts }
+        ensures { result ≡ is_some (reserved_at self.now hart) }
+    {
+        held_by(&self.reserved, hart).is_some()
+    }
+
+    /// Ends a hart's reservation.
+    pub fn end_reservation(&mut self, hart: u8)
+        requires { hart < most_harts }
+        ensures changes { self.new.changes ≡ self.old.changes }
+        ensures reserved { (h : ℕ) → reserved_at self.new h
+            ≡ (if h == hart then None else reserved_at self.old h) }
+        ensures output { self.new.output ≡ self.old.output }
+    {
+        self.reserved[usize::from(hart)] = None;
     }
 
     /// The word at an address, where a load of it has no fault.

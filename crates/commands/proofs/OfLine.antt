@@ -1,5 +1,5 @@
 -- What a line is refused for and what it comes to, from the same of its files and of its command.
-use Rattle.std.specs.Prelude.{◌≡◌, ◌⊎◌, ℕ, true, false, IsTrue, List, Option, Some, None, Result, Ok, Err, IfErr}
+use Rattle.std.specs.Prelude.{◌≡◌, ◌⊎◌, ℕ, Bool, true, false, if◌then◌else◌, IsTrue, List, Option, Some, None, Result, Ok, Err, IfErr}
 use Rattle.std.specs.Borrow.{Bor}
 use Rattle.std.proofs.Common.{refl, sym, ap, ◌∙◌}
 use Rattle.std.proofs.lemmas.Bool.{true≢false}
@@ -7,7 +7,7 @@ use mathlib.Core.Logic.{inl, inr}
 use Rattle.std.specs.Io.KnownBytes.{Keeps}
 use Rattle.elf_image.specs.{Loaded.IsImageOf}
 use Rattle.elf_image.specs.Image.{ProgramImage}
-use Rattle.commands.specs.Written.{ToWrite}
+use Rattle.commands.specs.{Written.ToWrite, Written.TextOf, Tested.TestedComesTo}
 use Rattle.sim_inputs.specs.{declared.line.Command.Command, declared.settings.Settings.Settings}
 use Rattle.sim_inputs.specs.Configuration.{AreInRange, IsConfiguration, with_harts}
 use Rattle.report_lines.specs.Statuses.{says_harts}
@@ -188,14 +188,29 @@ program_says harts command (Ok text) (Ok file) second lines Traced old new statu
 program_says harts command (Ok text) (Err why) second lines Traced old new status is = absurd is.2
 program_says harts command (Err why) image second lines Traced old new status is = absurd is
 
-litmus_says : (litmus : LitmusCommand) (config test : Read) (Traced : ToWrite → Type 0) (old new : Option (List ℕ))
-    (status : ℕ) → LitmusLineComesTo litmus config test Traced old new status → IsTrue (says_harts status)
-litmus_says litmus (Ok text) (Ok file) Traced old new status is = elim is.2.comes [
+-- So does that of runs: it is 0, or 3.
+runs_say : (b : Bool) (status : ℕ) → status ≡ (if b then 3 else 0) → IsTrue (says_harts status)
+runs_say true status is = ap says_harts is
+runs_say false status is = zero_says status is
+
+tested_says : (run : Option ℕ) (text : List ℕ) (settings : Settings) (litmus : LitmusCommand) (Put : List ℕ → Type 0)
+    (old new : Option (List ℕ)) (status : ℕ) → TestedComesTo run text settings litmus Put old new status
+    → IsTrue (says_harts status)
+tested_says None text settings litmus Put old new status is = elim is.comes [
   | inl all ↦ zero_says status all.zero
   | inr more ↦ ap says_harts more.three
 ]
-litmus_says litmus (Ok text) (Err why) Traced old new status is = absurd is.2
-litmus_says litmus (Err why) test Traced old new status is = absurd is
+tested_says (Some times) text settings litmus Put old new status is = elim is.comes [
+  | inl all ↦ runs_say _ status all.counted.stands
+  | inr more ↦ ap says_harts more.three
+]
+
+litmus_says : (litmus : LitmusCommand) (config test : Read) (Put : List ℕ → Type 0) (old new : Option (List ℕ))
+    (status : ℕ) → LitmusLineComesTo litmus config test Put old new status → IsTrue (says_harts status)
+litmus_says litmus (Ok text) (Ok file) Put old new status is =
+    tested_says litmus.run file is.0 litmus Put old new status is.2
+litmus_says litmus (Ok text) (Err why) Put old new status is = absurd is.2
+litmus_says litmus (Err why) test Put old new status is = absurd is
 
 migration_says : (config trace : Read) (Traced : ToWrite → Type 0) (old new : Option (List ℕ)) (status : ℕ)
     → MigrateLineComesTo config trace Traced old new status → IsTrue (says_harts status)
@@ -218,7 +233,7 @@ status_says harts (commands.OfProgram command) config image second lines Traced 
 status_says harts (commands.Explain explain) config image second lines Traced old new status is =
     explain_says harts explain.beside config image second old new status is
 status_says harts (commands.Litmus litmus) config test second lines Traced old new status is =
-    litmus_says litmus config test Traced old new status is
+    litmus_says litmus config test (λ text. Traced (TextOf text)) old new status is
 status_says harts (commands.Migrate migrate) config none trace lines Traced old new status is =
     migration_says config trace Traced old new status is
 

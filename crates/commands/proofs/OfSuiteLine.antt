@@ -1,5 +1,5 @@
 -- Lines of several litmus tests: when they are refused, and what is printed of their tests.
-use Rattle.std.specs.Prelude.{◌≡◌, ℕ, true, false, List, Option, is_some, Ok, Err}
+use Rattle.std.specs.Prelude.{◌≡◌, ℕ, true, List, Option, is_some, Ok, Err}
 use Rattle.std.proofs.Common.{refl, sym, subst}
 use mathlib.Core.Logic.{inl, inr}
 use Rattle.litmus_suites.specs.Sources.{GivenTest}
@@ -27,18 +27,23 @@ of_settings (Ok text) P Q is more = (is.0, is.1, more is.0 is.2)
 of_settings (Err why) P Q is more = absurd is
 
 pub configured : (config : Read) (text : List ℕ) (settings : Settings) → config ≡ Ok text
-    → IsConfiguration text settings → OfSettings config (λ settings. Unit {0})
+    → IsConfiguration text settings → OfFile config (λ text. IsConfiguration text settings)
 configured config text settings same is =
-    subst (λ (c : Read). OfSettings c (λ settings. Unit {0})) (sym same) (settings, is, tt)
+    subst (λ (c : Read). OfFile c (λ text. IsConfiguration text settings)) (sym same) is
+
+pub settled : (config : Read) (settings : Settings) (P : Settings → Type 0)
+    → OfFile config (λ text. IsConfiguration text settings) → P settings → OfSettings config P
+settled (Ok text) settings P is so = (settings, is, so)
+settled (Err why) settings P is so = absurd is
 
 -- What a line comes to, of what its tests come to.
 pub line_comes : {S : Type 0} (gives : S → Option GivenTest → S → Type 0) (hears : S → Refused → S → Type 0)
-    (litmus : LitmusCommand) (config summary : Read) (telling : Telling) (source left : S) (old new : Option (List ℕ))
-    (status : ℕ) → OfSettings config (λ settings. IsTellingOf litmus summary telling)
-    → SuiteComesTo gives hears litmus source left telling old new status
+    (litmus : LitmusCommand) (config summary : Read) (settings : Settings) (telling : Telling) (source left : S)
+    (old new : Option (List ℕ)) (status : ℕ) → OfFile config (λ text. IsConfiguration text settings)
+    → IsTellingOf litmus summary telling → SuiteComesTo gives hears settings litmus source left telling old new status
     → SuiteLineComesTo gives hears litmus config summary source left old new status
-line_comes gives hears litmus config summary telling source left old new status told is =
-    of_settings config _ _ told (λ settings so. (telling, so, is))
+line_comes gives hears litmus config summary settings telling source left old new status configured told is =
+    settled config settings _ configured (telling, told, is)
 
 -- It ends before only for what every line may end for.
 pub suite_fault : (litmus : LitmusCommand) (config summary : Read) (why : Refused) → IsSuiteRefusal why
@@ -138,27 +143,25 @@ lost_fault litmus config summary unread.File is wanted same =
     inr (of_settings config _ _ is (λ settings so. (wanted, same)))
 lost_fault litmus config summary unread.Memory is wanted same = tt
 
-pub summary_unread : (litmus : LitmusCommand) (config summary : Read) (why : Unread) (refused : Refused)
-    → OfSettings config (λ settings. Unit {0}) → is_some litmus.expect ≡ true → summary ≡ Err why
-    → refused ≡ refusal_of why → IsSuiteLineFault litmus config summary refused
-summary_unread litmus config summary why refused configured wanted same is =
+pub summary_unread : (litmus : LitmusCommand) (summary : Read) (why : Unread) (refused : Refused)
+    → is_some litmus.expect ≡ true → summary ≡ Err why → refused ≡ refusal_of why → (config : Read)
+    → OfSettings config (λ settings. Unit {0}) → IsSuiteLineFault litmus config summary refused
+summary_unread litmus summary why refused wanted same is config configured =
     subst (IsSuiteLineFault litmus config summary) (sym is) (lost_fault litmus config summary why configured wanted same)
 
-pub summary_refused : (config summary : Read) (text : List ℕ) (number : ℕ) → OfSettings config (λ settings. Unit {0})
-    → summary ≡ Ok text → IsFirstRefused text number
+pub summary_refused : (summary : Read) (text : List ℕ) (number : ℕ) → summary ≡ Ok text → IsFirstRefused text number
+    → (config : Read) → OfSettings config (λ settings. Unit {0})
     → OfSettings config (λ settings. OfFile summary (λ text. IsFirstRefused text number))
-summary_refused config summary text number configured same is =
+summary_refused summary text number same is config configured =
     of_settings config _ _ configured (λ settings so.
     subst (λ (s : Read). OfFile s (λ text. IsFirstRefused text number)) (sym same) is)
 
 -- The summary with which the tests are compared.
-pub compared : (litmus : LitmusCommand) (config summary : Read) (text : List ℕ) (expected : Expectation)
-    → OfSettings config (λ settings. Unit {0}) → is_some litmus.expect ≡ true → summary ≡ Ok text
-    → AreLinesOf text expected.lines.items
-    → OfSettings config (λ settings. IsTellingOf litmus summary (Lines (Comparison expected no_differences)))
-compared litmus config summary text expected configured wanted same is =
-    of_settings config _ _ configured (λ settings so. (
-      wanted,
-      refl,
-      subst (λ (s : Read). OfFile s (λ text. AreLinesOf text expected.lines.items)) (sym same) is,
-    ))
+pub compared : (litmus : LitmusCommand) (summary : Read) (text : List ℕ) (expected : Expectation)
+    → is_some litmus.expect ≡ true → summary ≡ Ok text → AreLinesOf text expected.lines.items
+    → IsTellingOf litmus summary (Lines (Comparison expected no_differences))
+compared litmus summary text expected wanted same is = (
+  wanted,
+  refl,
+  subst (λ (s : Read). OfFile s (λ text. AreLinesOf text expected.lines.items)) (sym same) is,
+)

@@ -10,7 +10,7 @@ use Rattle.litmus_suites.specs.declared.verdict.Verdict.{Verdict}
 use Rattle.litmus_suites.specs.declared.verdict.Verdict.TheVariants.{Whole, NotComplete}
 use Rattle.litmus_suites.specs.declared.counts.Differences.{Differences}
 use Rattle.litmus_suites.specs.Counting.{status_of as status_of_differences}
-use Rattle.sim_inputs.specs.declared.line.LitmusCommand.{LitmusCommand}
+use Rattle.sim_inputs.specs.{declared.settings.Settings.Settings, declared.line.LitmusCommand.LitmusCommand}
 use Rattle.command_parts.specs.declared.refused.Refused.{Refused}
 use Rattle.plain_commands.specs.Litmus.{LitmusComesTo}
 use Rattle.plain_commands.specs.Suite.{CameOf, HaveCome, IsFinished, IsKnown, IsMade, SuiteComesTo, status_of, with_gone}
@@ -45,32 +45,34 @@ known_verdict : (verdict : Verdict) → IsKnown (status_of verdict)
 known_verdict (Whole held others asked stuck) = known_0
 known_verdict NotComplete = known_3
 
-known_litmus : (text : List ℕ) (command : LitmusCommand) (Put : List ℕ → Type 0) (old new : Option (List ℕ))
-    (status : ℕ) → LitmusComesTo text command Put old new status → IsKnown status
-known_litmus text command Put old new status is = elim is.comes [
+known_litmus : (text : List ℕ) (settings : Settings) (command : LitmusCommand) (Put : List ℕ → Type 0)
+    (old new : Option (List ℕ)) (status : ℕ) → LitmusComesTo text settings command Put old new status → IsKnown status
+known_litmus text settings command Put old new status is = elim is.comes [
   | inl all ↦ known_as status 0 all.zero known_0
   | inr more ↦ known_as status 3 more.three known_3
 ]
 
-known_made : (text : List ℕ) (command : LitmusCommand) (before after : Telling) (old new : Option (List ℕ)) (status : ℕ)
-    → IsMade text command before after old new status → IsKnown status
-known_made text command States after old new status made = known_litmus text command _ old new status made.1
-known_made text command (Lines lines) after old new status made =
+known_made : (text : List ℕ) (settings : Settings) (command : LitmusCommand) (before after : Telling)
+    (old new : Option (List ℕ)) (status : ℕ) → IsMade text settings command before after old new status → IsKnown status
+known_made text settings command States after old new status made =
+    known_litmus text settings command _ old new status made.1
+known_made text settings command (Lines lines) after old new status made =
     known_as status (status_of made.2.line.verdict) made.2.is (known_verdict made.2.line.verdict)
 
 module _ {S : Type 0} (gives : S → Option GivenTest → S → Type 0) (hears : S → Refused → S → Type 0)
-    (command : LitmusCommand) where
+    (settings : Settings) (command : LitmusCommand) where
   known_came : (test : GivenTest) (given left : S) (before after : Telling) (old new : Option (List ℕ)) (status : ℕ)
-      → CameOf hears command test given left before after old new status → IsKnown status
+      → CameOf hears settings command test given left before after old new status → IsKnown status
   known_came (Ok text) given left before after old new status came = elim came [
-    | inl made ↦ known_made text command before after old made.1.printed status made.1.made
+    | inl made ↦ known_made text settings command before after old made.1.printed status made.1.made
     | inr refused ↦ known_refusal refused.reason status refused.is
   ]
   known_came (Err why) given left before after old new status came =
       known_as status (no_test_status why) came.3 (known_absent why)
 
   known_worst : (tests : List (GivenTest × ℕ)) (source left : S) (before after : Telling) (old new : Option (List ℕ))
-      → HaveCome gives hears command tests source left before after old new → IsKnown (worst (map (λ test. test.1) tests))
+      → HaveCome gives hears settings command tests source left before after old new
+      → IsKnown (worst (map (λ test. test.1) tests))
   known_worst [] source left before after old new come = known_0
   known_worst (test ∷ past) source left before after old new come =
       known_worse (worst (map (λ t. t.1) past)) test.1
@@ -92,7 +94,7 @@ module _ {S : Type 0} (gives : S → Option GivenTest → S → Type 0) (hears :
       known_as status _ is.1 (known_differences (with_gone expected differences))
 
   pub known_suite : (source left : S) (telling : Telling) (old new : Option (List ℕ)) (status : ℕ)
-      → SuiteComesTo gives hears command source left telling old new status → IsKnown status
+      → SuiteComesTo gives hears settings command source left telling old new status → IsKnown status
   known_suite source left telling old new status is =
       known_as status (worse is.worst is.last) is.is (known_worse is.worst is.last
       (known_as is.worst _ is.all.worst_is

@@ -25,7 +25,7 @@ use Rattle.event_text.specs.Refusals.{NamesCore}
 use Rattle.sim_inputs.specs.declared.line.LitmusCommand.{LitmusCommand}
 use Rattle.sim_inputs.specs.declared.line.ProgramCommand.{ProgramCommand}
 use Rattle.sim_inputs.specs.declared.line.Command.TheVariants as commands
-use Rattle.plain_commands.specs.Litmus.{IsLitmusRefusal, LitmusComesTo}
+use Rattle.commands.specs.Tested.{IsTestedRefusal, TestedComesTo}
 
 -- Harts are given beside a trace that says itself of what core it is.
 abbrev pub AreTwoCores : Option ℕ → Read → Type 0
@@ -103,18 +103,20 @@ ExplainLineComesTo harts beside config image second old new status = OfProgram c
 -- that can't be read is refused where it is looked at.
 abbrev pub IsLitmusLineRefusal : LitmusCommand → Read → Read → Refused → Type 0
 IsLitmusLineRefusal litmus config test Config = OfFile config IsNoConfiguration
+    ⊎ OfSettings config (λ settings. OfFile test (λ text. IsTestedRefusal litmus.run text settings litmus Config))
 IsLitmusLineRefusal litmus config test File =
     (config ≡ Err unread.File) ⊎ OfSettings config (λ settings. test ≡ Err unread.File)
 IsLitmusLineRefusal litmus config test Memory = Unit {0}
 IsLitmusLineRefusal litmus config test reason =
-    OfSettings config (λ settings. OfFile test (λ text. IsLitmusRefusal text litmus reason))
+    OfSettings config (λ settings. OfFile test (λ text. IsTestedRefusal litmus.run text settings litmus reason))
 
 -- What it comes to: the configuration's settings are a core's, and the command has come to what is owed on
--- it. Of the settings nothing else is asked.
-abbrev pub LitmusLineComesTo : LitmusCommand → Read → Read → (ToWrite → Type 0) → Option (List ℕ)
-    → Option (List ℕ) → ℕ → Type 0
-LitmusLineComesTo litmus config test Traced old new status = OfSettings config (λ settings. OfFile test (λ text.
-    LitmusComesTo text litmus (λ file. Traced (TextOf file)) old new status))
+-- it, with the harts of the test in place of theirs.
+abbrev pub LitmusLineComesTo : LitmusCommand → Read → Read → (List ℕ → Type 0) → Option (List ℕ) → Option (List ℕ) → ℕ
+    → Type 0
+LitmusLineComesTo litmus config test Put old new status =
+    OfSettings config (λ settings. OfFile test (λ text.
+    TestedComesTo litmus.run text settings litmus Put old new status))
 
 -- When each refusal comes of a migration: the configuration is looked at first, then the trace. A file that
 -- can't be read is refused where it is looked at.
@@ -155,7 +157,7 @@ LineComesTo harts (commands.OfProgram command) config image second lines Traced 
 LineComesTo harts (commands.Explain explain) config image second lines Traced old new status =
     ExplainLineComesTo harts explain.beside config image second old new status
 LineComesTo harts (commands.Litmus litmus) config test second lines Traced old new status =
-    LitmusLineComesTo litmus config test Traced old new status
+    LitmusLineComesTo litmus config test (λ text. Traced (TextOf text)) old new status
 LineComesTo harts (commands.Migrate migrate) config none trace lines Traced old new status =
     MigrateLineComesTo config trace Traced old new status
 

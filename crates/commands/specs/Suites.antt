@@ -24,12 +24,13 @@ IsTellingOf litmus summary (Lines (Summary counts)) = (litmus.summary ≡ true) 
 IsTellingOf litmus summary (Lines (Comparison expected differences)) = (is_some litmus.expect ≡ true)
     × (differences ≡ no_differences) × OfFile summary (λ text. AreLinesOf text expected.lines.items)
 
--- What the line comes to: the configuration's settings are a core's, and the suite has come to what is owed on it.
+-- What the line comes to: the configuration's settings are a core's, and the suite has come to what is owed on it, of these
+-- settings.
 abbrev pub SuiteLineComesTo : {S : Type 0} → (S → Option GivenTest → S → Type 0) → (S → Refused → S → Type 0)
     → LitmusCommand → Read → Read → S → S → Option (List ℕ) → Option (List ℕ) → ℕ → Type 0
 SuiteLineComesTo gives hears litmus config summary source left old new status = OfSettings config
     (λ settings. (telling : Telling) × IsTellingOf litmus summary telling
-    × SuiteComesTo gives hears litmus source left telling old new status)
+    × SuiteComesTo gives hears settings litmus source left telling old new status)
 
 -- When each refusal comes of the line itself: the configuration is looked at first, then the summary. Of memory and of the
 -- output nothing is said.

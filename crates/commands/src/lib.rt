@@ -3,11 +3,11 @@
 //! Read in this order: `explain` and `list` (the commands that run nothing), `explain_beside` (what `explain` says of a
 //! script, an order or a trace), `two_cores` (harts beside a trace that names its core), `settings` (the harts of a
 //! line over those of its file), `explain_line` (a line of `explain`), `naming` (the names of a program, where a
-//! command wants them), `labelling` (what stands beside addresses), `runs` (one run or many), `performing` (all of it:
-//! the files taken in their order, the command, the exit status), `typed` (the same of a script that is typed), and
-//! `suites` (many litmus tests). What a line comes to, and when each of its refusals comes, stands in `specs/Perform`;
-//! what a command of a program does, in `specs/Commands`. The commands themselves are in `core_commands` and
-//! `plain_commands`.
+//! command wants them), `labelling` (what stands beside addresses), `runs` (one run or many), `tested` (a litmus test,
+//! listed or run), `performing` (all of it: the files taken in their order, the command, the exit status), `typed` (the
+//! same of a script that is typed), and `suites` (many litmus tests). What a line comes to, and when each of its
+//! refusals comes, stands in `specs/Perform`; what a command of a program does, in `specs/Commands`. The commands
+//! themselves are in `core_commands` and `plain_commands`.
 #![tactic(auto)]
 
 mod explain;
@@ -20,6 +20,7 @@ mod performing;
 mod runs;
 mod settings;
 mod suites;
+mod tested;
 mod two_cores;
 mod typed;
 

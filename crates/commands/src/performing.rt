@@ -23,6 +23,7 @@ use crate::list::perform_list;
 use crate::naming::{names_where, wants_names};
 use crate::runs::perform_runs;
 use crate::settings::settings_with;
+use crate::tested::test_or_run;
 use crate::two_cores::are_two_cores;
 use actors::Gate;
 use command_parts::{Context, Inputs, Refused, Unread, image_of, lines_where, refuse, settings_of};
@@ -31,7 +32,7 @@ use core_commands::{
 };
 use elf_image::Image;
 use plain_commands::{
-    perform_litmus, perform_outcomes, perform_plain, perform_rounds, perform_schedule, rounds_of,
+    perform_outcomes, perform_plain, perform_rounds, perform_schedule, rounds_of,
 };
 use sim_inputs::{Command, HartCount, Line, LitmusCommand, ProgramCommand, Settings};
 use smt_core::Predict;
@@ -143,48 +144,44 @@ fn perform_line<
             &mut context.out,
             alloc,
         ),
-        Command::Litmus(litmus) => read_and_test(
-            litmus,
-            inputs,
-            context.gate,
-            &mut context.files,
-            &mut context.out,
-            alloc,
-        ),
+        Command::Litmus(litmus) => read_and_test(context, litmus, inputs),
         Command::Migrate(_) => read_and_migrate(inputs, &mut context.files, alloc),
     }
 }
 
 /// The exit status of a litmus test, with all flushed that is printed of it.
-fn read_and_test<G: Gate, S: EndFiles, W: Write>(
+fn read_and_test<
+    G: Gate + Sync,
+    P: Predict + Copy + Send,
+    S: EndFiles,
+    W: Write,
+    R: Threads + Wait + Sync,
+>(
+    context: &mut Context<'_, R, G, P, S, W>,
     litmus: &LitmusCommand<'_>,
     inputs: &Inputs<'_>,
-    gate: &G,
-    file: &mut S,
-    out: &mut W,
-    alloc: Global,
 ) -> Result<u8, Refused>
-    requires works { S.has_failed file.old ≡ false }
-    requires finished { S.is_finished file.old ≡ true }
+    requires works { S.has_failed context.old.files ≡ false }
+    requires finished { S.is_finished context.old.files ≡ true }
     ensures unset { IfErr inputs.now.config (λ why. result ≡ Err (refusal_of why)) }
     ensures refused { IfErr result (IsLitmusLineRefusal litmus.now (as_read inputs.now.config)
         (as_read inputs.now.program)) }
     ensures ended { IfOk result (LitmusLineComesTo litmus.now (as_read inputs.now.config)
-        (as_read inputs.now.program) (IsWritten S.begins S.written S.has_failed file.old file.new)
-        (W.contents out.old) (W.contents out.new)) }
-    ensures finished { OnOk result (S.is_finished file.new ≡ true) }
-    ensures unwanted { is_some (written_for_test litmus.now) ≡ false → file.new ≡ file.old }
-    ensures unreported { S.has_failed file.new ≡ true
-        → W.contents out.new ≡ W.contents out.old }
+        (as_read inputs.now.program) (HasPut S.written S.has_failed context.old.files context.new.files)
+        (W.contents context.old.out) (W.contents context.new.out)) }
+    ensures finished { OnOk result (S.is_finished context.new.files ≡ true) }
+    ensures unwanted { is_some (written_for_test litmus.now) ≡ false → context.new.files ≡ context.old.files }
+    ensures unreported { S.has_failed context.new.files ≡ true
+        → W.contents context.new.out ≡ W.contents context.old.out }
 {
     let sizes = inputs.config?;
-    settings_of(sizes, alloc)?;
+    let settings = settings_of(sizes, context.alloc)?;
     let text = inputs.program?;
-    let status = match perform_litmus(text, litmus, gate, file, out, alloc) {
+    let status = match test_or_run(context, text, litmus, settings) {
         Ok(status) => status,
         Err(refused) => return Err(refused),
     };
-    match out.flush() {
+    match context.out.flush() {
         Ok(()) => Ok(status),
         Err(_) => Err(Refused::Output),
     }

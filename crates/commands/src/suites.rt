@@ -1,7 +1,8 @@
 //! All that the program does with a line of several litmus tests.
 
 ghost use Rattle.std.specs.Prelude.{◌≡◌, IfErr, IfOk};
-ghost use Rattle.command_parts.specs.Inputs.{as_read, OfSettings, Read};
+ghost use Rattle.command_parts.specs.Inputs.{as_read, OfFile, OfSettings, Read};
+ghost use Rattle.sim_inputs.specs.Configuration.{IsConfiguration};
 ghost use Rattle.sim_inputs.specs.declared.line.LitmusCommand.{LitmusCommand as AnyLitmus};
 ghost use Rattle.plain_commands.specs.Suite.{IsKnown};
 ghost use Rattle.commands.specs.Suites.{IsSuiteLineFault, IsSuiteLineRefusal, IsTellingOf, SuiteLineComesTo, suite_status_of};
@@ -10,7 +11,7 @@ use actors::Gate;
 use command_parts::{Context, Inputs, Refused, Unread, settings_of};
 use litmus_suites::{Counts, Differences, Expectation, SummaryRefused};
 use plain_commands::{LineTelling, Telling, TestSource, perform_suite};
-use sim_inputs::LitmusCommand;
+use sim_inputs::{LitmusCommand, Settings};
 use std::alloc::Global;
 use std::io::Write;
 use thiserror::Error;
@@ -55,39 +56,47 @@ pub fn perform_suite_line<T: TestSource, R, G: Gate, P, S, W: Write>(
         (IsSuiteLineRefusal litmus.now (as_read inputs.now.config) (as_read inputs.now.second)) }
 {
     let alloc = context.alloc;
-    let mut telling = match telling_of(litmus, inputs, alloc) {
+    let settings = match settings_in(inputs.config, alloc) {
+        Ok(settings) => settings,
+        Err(refused) => return Err(SuiteRefused::Line(refused)),
+    };
+    let mut telling = match telling_of(litmus, inputs.second, alloc) {
         Ok(telling) => telling,
         Err(refused) => return Err(refused),
     };
     let gate = context.gate;
-    match perform_suite(source, litmus, &mut telling, gate, &mut context.out, alloc) {
+    match perform_suite(
+        source,
+        litmus,
+        &mut telling,
+        &settings,
+        gate,
+        &mut context.out,
+        alloc,
+    ) {
         Ok(status) => Ok(status),
         Err(refused) => Err(SuiteRefused::Line(refused)),
     }
 }
 
-/// What is printed of the tests, where configuration and summary are accepted.
+/// What is printed of the tests, where the summary is accepted that is expected. It is refused behind any configuration
+/// of a core.
 fn telling_of<'a>(
     litmus: &LitmusCommand<'_>,
-    inputs: &Inputs<'a>,
+    summary: Result<&'a [u8], Unread>,
     alloc: Global,
 ) -> Result<Telling<'a>, SuiteRefused>
-    ensures telling { IfOk result (λ telling. OfSettings (as_read inputs.now.config)
-        (λ settings. IsTellingOf litmus.now (as_read inputs.now.second) telling)) }
-    ensures refused { IfErr result
-        (IsSuiteLineRefusal litmus.now (as_read inputs.now.config) (as_read inputs.now.second)) }
+    ensures telling { IfOk result (IsTellingOf litmus.now (as_read summary.entry)) }
+    ensures refused { IfErr result (λ why. (config : Read) → OfSettings config (λ settings. Unit {0})
+        → IsSuiteLineRefusal litmus.now config (as_read summary.entry) why) }
 {
-    match check_configuration(inputs.config, alloc) {
-        Ok(()) => {}
-        Err(refused) => return Err(SuiteRefused::Line(refused)),
-    }
     if litmus.summary {
         return Ok(Telling::Lines(LineTelling::Summary(Counts::NONE)));
     }
     if litmus.expect.is_none() {
         return Ok(Telling::States);
     }
-    let text = match inputs.second {
+    let text = match summary {
         Ok(text) => text,
         Err(why) => return Err(SuiteRefused::Line(Refused::from(why))),
     };
@@ -98,9 +107,9 @@ fn telling_of<'a>(
     }
 }
 
-/// Refuses a configuration that isn't one of a core. Nothing else is asked of it.
-fn check_configuration(config: Result<&[u8], Unread>, alloc: Global) -> Result<(), Refused>
-    ensures accepted { IfOk result (λ unit. OfSettings (as_read config.entry) (λ settings. Unit {0})) }
+/// The settings of a configuration. One that isn't of a core is refused.
+fn settings_in(config: Result<&[u8], Unread>, alloc: Global) -> Result<Settings, Refused>
+    ensures settings { IfOk result (λ settings. OfFile (as_read config.entry) (λ text. IsConfiguration text settings)) }
     ensures refused { IfErr result (λ reason. (litmus : AnyLitmus) (summary : Read)
         → IsSuiteLineFault litmus (as_read config.entry) summary reason) }
 {
@@ -109,7 +118,7 @@ fn check_configuration(config: Result<&[u8], Unread>, alloc: Global) -> Result<(
         Err(why) => return Err(Refused::from(why)),
     };
     match settings_of(sizes, alloc) {
-        Ok(_) => Ok(()),
+        Ok(settings) => Ok(settings),
         Err(refused) => Err(refused),
     }
 }

@@ -5,13 +5,13 @@ use Rattle.std.specs.Prelude.{◌==◌, ◌&&◌, ◌||◌, if◌then◌else◌,
 use Rattle.std.proofs.lemmas.Bool.{cases_lt, Decides.nat_tests}
 use Rattle.smt_model.specs.{Setup.first_number, declared.config.Status.TheVariants.Going}
 use Rattle.smt_model.specs.Plain.{Plain, is_going_status, read_register}
-use Rattle.outcome_laws.specs.Live.{AreAlike, matters}
-use Rattle.live_registers.specs.Table.{live_of}
+use Rattle.outcome_laws.specs.Live.{AreAlike, matters, reservation_matters}
+use Rattle.live_registers.specs.Table.{live_of, kept_of}
+use Rattle.changed_memory.specs.Shared.{Shared, byte_at, reserved_at}
 use Rattle.sc_machine.specs.{Harts.HartAgrees, declared.hart.Hart.Hart}
 use Rattle.condensed_machine.specs.{Settling.HartsStay, Resting.IsRested, Resting.is_watched, Resting.is_kept}
-use Rattle.condensed_machine.specs.{Machine.Program, Decoded.Decoded, Decoded.full, Decoded.hart_at}
+use Rattle.condensed_machine.specs.{Machine.Program, Machine.tables_of, Decoded.Decoded, Decoded.full, Decoded.hart_at}
 use Rattle.condensed_machine.specs.{Decoded.register_of, Decoded.pc_of, Decoded.status_of}
-use Rattle.condensed_machine.specs.{Executing.SharedAgrees}
 use Rattle.condensed_machine.proofs.Instructions.{both, second_no}
 
 -- Hart h of s is y, but for registers that nobody reads again.
@@ -21,13 +21,19 @@ pub record IsKeptAs (p : Program) (s : Plain) (h : ℕ) (y : Hart) : Type 0 wher
   pub registers : (r : ℕ) → r ≢ 0 → matters (is_watched p.watched) (live_of p.live) s h r ≡ true
       → s.registers h r ≡ register_of p h y r
 
+-- What the harts share is so in s, but for reservations that nobody uses again.
+pub record SharedIsKept (p : Program) (s : Plain) (shared : Shared) : Type 0 where
+  pub reserved : (h : ℕ) → reservation_matters (kept_of p.live) s h ≡ true → reserved_at shared h ≡ s.reserved h
+  pub bytes : (a : ℕ) → byte_at p.image shared a ≡ s.bytes a
+  pub output : shared.output ≡ s.output
+
 pub alike_by_harts : (p : Program) (s : Plain) (d : Decoded)
-    → ((h : ℕ) → IsKeptAs p s h (hart_at d.harts h)) → SharedAgrees p.image s d.shared
-    → AreAlike (is_watched p.watched) (live_of p.live) s (full p d)
+    → ((h : ℕ) → IsKeptAs p s h (hart_at d.harts h)) → SharedIsKept p s d.shared
+    → AreAlike (is_watched p.watched) (tables_of p) s (full p d)
 alike_by_harts p s d kept shared = record {
   pcs = λ h. (kept h).pc;
   statuses = λ h. (kept h).status;
-  reserved = λ h. sym (shared.reserved h);
+  reserved = λ h matter. sym (shared.reserved h matter);
   bytes = λ a. sym (shared.bytes a);
   output = sym shared.output;
   registers = λ h r some matter. (kept h).registers r some matter;

@@ -1,5 +1,5 @@
 -- Code that may not be written stays what the image has, in all that the harts share.
-use Rattle.std.proofs.Common.{◌≡◌, ℕ, true, false, List, [], Option, Some, None, IfSome}
+use Rattle.std.proofs.Common.{◌≡◌, ℕ, Bool, true, false, List, [], Option, Some, None, IfSome}
 use Rattle.std.proofs.Common.{refl, sym, ap, subst, ◌∙◌}
 use Rattle.std.proofs.lemmas.{Option.slice_get-get_or}
 use Rattle.elf_image.specs.Image.{ProgramImage, byte_in, in_code, code_writable}
@@ -23,9 +23,10 @@ spared image fixed None can a before there = refl
 spared image fixed (Some w) can a before there = code_spared image fixed w can.no_fault a before there
 
 -- So it stays behind an instruction.
-pub code_after : (image : ProgramImage) (h : ℕ) (e : Executed) (old new : Shared)
-    → IfSome e.effect.write (CanWrite image) → SharedAfter image h e old new → HasCode image old → HasCode image new
-code_after image h e old new can after holds fixed pc =
+pub code_after : (image : ProgramImage) (h : ℕ) (e : Executed) (kept : Bool) (old new : Shared)
+    → IfSome e.effect.write (CanWrite image) → SharedAfter image h e kept old new → HasCode image old
+    → HasCode image new
+code_after image h e kept old new can after holds fixed pc =
     word_now-kept image (byte_at image new) (byte_at image old)
     (λ a there. after.bytes a ∙ spared image fixed e.effect.write can a (byte_at image old a) there) pc
     ∙ holds fixed pc

@@ -4,7 +4,7 @@ use Rattle.std.proofs.Common.{◌≡◌, ℕ, ◌<◌, ◌+◌, true, false, Opt
 use Rattle.std.proofs.Common.{inl, inr}
 use Rattle.std.specs.Prelude.{slice_index}
 use Rattle.std.proofs.lemmas.Bool.{cases_Bool, Decides.nat_tests}
-use Rattle.elf_image.specs.Image.{ProgramImage, IsWellFormed, has_code_word, word_of, word_now, byte_in, code_word}
+use Rattle.elf_image.specs.Image.{ProgramImage, IsWellFormed, has_code_word, word_of, word_now, byte_in}
 use Rattle.elf_image.specs.Image.{code_writable}
 use Rattle.elf_image.proofs.Words.{word_now-same}
 use Rattle.rv_instr.specs.{Decode.op_of_word, Kinds.or_zero, Table.OpInRange, declared.op.Op.Op}
@@ -16,7 +16,7 @@ use Rattle.shared_memory.specs.Contents.{Contents}
 use Rattle.smt_model.specs.{Setup.Setup, Exec.exec, Faults.checked, Faults.computed_on, Faults.read_fault}
 use Rattle.smt_model.specs.Bytes.{number_at}
 use Rattle.smt_model.specs.Plain.{Plain, read_register, op_at_pc, computes}
-use Rattle.outcome_laws.specs.{Paths.HasItsCode, Live.op_at}
+use Rattle.outcome_laws.specs.{Paths.HasItsCode, Tables.op_at}
 use Rattle.outcome_laws.proofs.Holding.{op_fixed}
 use Rattle.sc_machine.specs.{Harts.HartAgrees, declared.hart.Hart.Hart}
 use Rattle.sc_machine.specs.Here.{computed_here}

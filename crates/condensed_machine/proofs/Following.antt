@@ -3,7 +3,7 @@ use Rattle.std.proofs.Common.{◌≡◌, ℕ, zero, suc, ◌+◌, false, List, [
 use Rattle.std.proofs.Common.{refl, sym, ap, subst, ◌∙◌, add-one}
 use Rattle.std.specs.Prelude.{◌==◌, if◌then◌else◌}
 use Rattle.smt_model.specs.{Setup.Setup, Plain.Plain}
-use Rattle.outcome_laws.specs.{Paths.stepped, Search.IsLocalPath}
+use Rattle.outcome_laws.specs.{Paths.stepped, Tables.Tables, Search.IsLocalPath}
 use Rattle.sc_machine.specs.{Harts.HartAgrees, declared.hart.Hart.Hart}
 use Rattle.condensed_machine.specs.Settling.{HartsStay, OthersStay, GoesOn}
 
@@ -47,27 +47,30 @@ agrees_still h g s t x apart stay is = record {
 }
 
 -- One order of local steps, and then another.
-pub paths_join : (setup : Setup) (first second : List ℕ) (s t u : Plain) → IsLocalPath setup first s t
-    → IsLocalPath setup second t u → IsLocalPath setup (first ++ second) s u
-paths_join setup [] second s t u leads on = subst (λ z. IsLocalPath setup second z u) (sym leads) on
-paths_join setup (h ∷ first) second s t u leads on =
-    (leads.0, leads.1, paths_join setup first second (stepped setup h s) t u leads.2 on)
+pub paths_join : (setup : Setup) (tables : Tables) (first second : List ℕ) (s t u : Plain)
+    → IsLocalPath setup tables first s t → IsLocalPath setup tables second t u
+    → IsLocalPath setup tables (first ++ second) s u
+paths_join setup tables [] second s t u leads on = subst (λ z. IsLocalPath setup tables second z u) (sym leads) on
+paths_join setup tables (h ∷ first) second s t u leads on =
+    (leads.0, leads.1, paths_join setup tables first second (stepped setup h s) t u leads.2 on)
 
-one_more : (setup : Setup) (h k : ℕ) (s t u : Plain) → IsLocalPath setup (replicate k h) s t
-    → IsLocalPath setup (replicate 1 h) t u → IsLocalPath setup (replicate (suc k) h) s u
-one_more setup h zero s t u leads on = subst (λ z. IsLocalPath setup (replicate 1 h) z u) (sym leads) on
-one_more setup h (suc k) s t u leads on =
-    (leads.0, leads.1, one_more setup h k (stepped setup h s) t u leads.2 on)
+one_more : (setup : Setup) (tables : Tables) (h k : ℕ) (s t u : Plain) → IsLocalPath setup tables (replicate k h) s t
+    → IsLocalPath setup tables (replicate 1 h) t u → IsLocalPath setup tables (replicate (suc k) h) s u
+one_more setup tables h zero s t u leads on = subst (λ z. IsLocalPath setup tables (replicate 1 h) z u) (sym leads) on
+one_more setup tables h (suc k) s t u leads on =
+    (leads.0, leads.1, one_more setup tables h k (stepped setup h s) t u leads.2 on)
 
-pub stays_put : (setup : Setup) (h : ℕ) (s : Plain) (x : Hart) → HartAgrees s h x → GoesOn setup h 0 s x
-stays_put setup h s x is = record { there = s; local = refl; agrees = is; others = none_stays h s }
+pub stays_put : (setup : Setup) (tables : Tables) (h : ℕ) (s : Plain) (x : Hart) → HartAgrees s h x
+    → GoesOn setup tables h 0 s x
+stays_put setup tables h s x is = record { there = s; local = refl; agrees = is; others = none_stays h s }
 
-pub goes_further : (setup : Setup) (h k : ℕ) (s : Plain) (y z : Hart) (first : GoesOn setup h k s y)
-    → GoesOn setup h 1 first.there z → GoesOn setup h (k + 1) s z
-goes_further setup h k s y z first second = record {
+pub goes_further : (setup : Setup) (tables : Tables) (h k : ℕ) (s : Plain) (y z : Hart)
+    (first : GoesOn setup tables h k s y)
+    → GoesOn setup tables h 1 first.there z → GoesOn setup tables h (k + 1) s z
+goes_further setup tables h k s y z first second = record {
   there = second.there;
-  local = subst (λ n. IsLocalPath setup (replicate n h) s second.there) (sym (add-one k))
-      (one_more setup h k s first.there second.there first.local second.local);
+  local = subst (λ n. IsLocalPath setup tables (replicate n h) s second.there) (sym (add-one k))
+      (one_more setup tables h k s first.there second.there first.local second.local);
   agrees = second.agrees;
   others = then_stay h s first.there second.there first.others second.others;
 }

@@ -1,6 +1,6 @@
 -- What one instruction of a hart comes to in a state in which it is hart h.
 use Rattle.std.proofs.Common.{◌≡◌, ℕ, ◌<◌, Bool, true, false, refl, sym, ap, subst, ◌∙◌, arith}
-use Rattle.std.specs.Prelude.{◌&&◌, ◌==◌, ◌≤◌, not, nat_lt, if◌then◌else◌, slice_index}
+use Rattle.std.specs.Prelude.{◌&&◌, ◌==◌, not, nat_lt, if◌then◌else◌, slice_index}
 use Rattle.std.proofs.{lemmas.Bool.Decides.nat_tests, Math.Path.fun_ext}
 use Rattle.elf_image.specs.Image.{code_writable, word_now}
 use Rattle.rv_instr.specs.{Decode.op_of_word, Table.OpInRange}
@@ -11,17 +11,25 @@ use Rattle.smt_model.specs.Plain.{Plain, after, op_at_pc, computes, effect_at, i
 use Rattle.smt_model.specs.Plain.{output_after, register_after, word_at_pc}
 use Rattle.rv_instr.specs.Registers.{op_rd}
 use Rattle.rv_instr.proofs.DecodedLemmas.{op_of_word_in_range, op_rd_below}
-use Rattle.outcome_laws.specs.{Paths.can_step, Paths.stepped, Local.is_local, Local.is_local_of}
-use Rattle.outcome_laws.proofs.Local.{IsQuiet, local_step}
+use Rattle.outcome_laws.specs.{Paths.can_step, Paths.stepped, Local.is_silent, Local.is_local, Local.lacks_reservation}
+use Rattle.outcome_laws.specs.Tables.{Tables, AllowsAll}
+use Rattle.outcome_laws.proofs.Facts.{either_left}
+use Rattle.outcome_laws.proofs.Silent.{IsQuiet, silent_step}
+use Rattle.outcome_laws.proofs.Fitting.{every_step_fits, silent_steps_are_local}
 use Rattle.sc_machine.specs.{Harts.HartAgrees, Harts.register_written, declared.hart.Hart.Hart}
 use Rattle.sc_machine.proofs.Harts.{own_hart}
 use Rattle.sc_machine.specs.Here.{computed_here}
 use Rattle.shared_memory.specs.Contents.{Contents}
 use Rattle.changed_memory.specs.Shared.{Shared, byte_at, reserved_at}
-use Rattle.condensed_machine.specs.Settling.{HartsStay, OthersStay, GoesOn}
+use Rattle.condensed_machine.specs.Settling.{HartsStay, OthersStay, GoesOn, is_followed}
+use Rattle.condensed_machine.specs.{Machine.Program, Machine.tables_of}
 use Rattle.condensed_machine.specs.Executing.{SharedAgrees, IsExecuted}
 use Rattle.condensed_machine.specs.declared.executed.Executed.{Executed}
 use Rattle.condensed_machine.proofs.Finding.{below, computed_same, shared_same}
+
+-- The tables of a program allow all.
+pub allows_all : (p : Program) → AllowsAll (tables_of p)
+allows_all p = record { targets = λ pc to. refl; ahead = λ h pc what writes. refl }
 
 pub both : (a b : Bool) → a ≡ true → b ≡ true → (a && b) ≡ true
 both a b first second = rw (first, second) refl
@@ -40,26 +48,26 @@ pub second_no : (a b : Bool) → b ≡ false → (a && b) ≡ false
 second_no true b off = off
 second_no false b off = refl
 
--- A hart that doesn't go makes no local step, and so does one whose next step isn't local.
+-- No step of a hart is followed that doesn't go, or whose next step touches memory or puts a byte out.
 pub stands_over : (setup : Setup) (s : Plain) (h : ℕ) (x : Hart) → HartAgrees s h x
-    → is_going_status x.status ≡ false → (can_step setup h s && is_local setup h s) ≡ false
+    → is_going_status x.status ≡ false → (can_step setup h s && is_followed setup h s) ≡ false
 stands_over setup s h x is over =
-    either_no (nat_lt h setup.harts) (is_going_status (s.statuses h)) (is_local setup h s)
+    either_no (nat_lt h setup.harts) (is_going_status (s.statuses h)) (is_followed setup h s)
     (ap is_going_status (sym is.status) ∙ over)
 
 pub stands_at : (setup : Setup) (s : Plain) (h : ℕ) (op : Op) (c : Computed) → op ≡ op_at_pc setup s h
-    → c ≡ computes setup s h → is_local_of op c ≡ false → (can_step setup h s && is_local setup h s) ≡ false
+    → c ≡ computes setup s h → is_silent op c ≡ false → (can_step setup h s && is_followed setup h s) ≡ false
 stands_at setup s h op c of_op of_computed seen =
-    second_no (can_step setup h s) (is_local setup h s)
-    (second_no (not (code_writable setup.image)) (is_local_of (op_at_pc setup s h) (computes setup s h))
-    (ap (λ o. is_local_of o (computes setup s h)) (sym of_op) ∙ ap (is_local_of op) (sym of_computed) ∙ seen))
+    second_no (can_step setup h s) (is_followed setup h s)
+    (second_no (not (code_writable setup.image)) (is_silent (op_at_pc setup s h) (computes setup s h))
+    (ap (λ o. is_silent o (computes setup s h)) (sym of_op) ∙ ap (is_silent op) (sym of_computed) ∙ seen))
 
--- Where the code may be written no step is local.
+-- Where the code may be written no step is followed.
 pub stands_written : (setup : Setup) (s : Plain) (h : ℕ) → code_writable setup.image ≡ true
-    → (can_step setup h s && is_local setup h s) ≡ false
+    → (can_step setup h s && is_followed setup h s) ≡ false
 stands_written setup s h writable =
-    second_no (can_step setup h s) (is_local setup h s)
-    (ap (λ b. not b && is_local_of (op_at_pc setup s h) (computes setup s h)) writable)
+    second_no (can_step setup h s) (is_followed setup h s)
+    (ap (λ b. not b && is_silent (op_at_pc setup s h) (computes setup s h)) writable)
 
 -- The state behind an instruction, told by what was executed.
 pub after_same : (setup : Setup) (s : Plain) (h : ℕ) (op : Op) (addr : ℕ) (e : Effect) → op ≡ op_at_pc setup s h
@@ -121,21 +129,29 @@ module _ (setup : Setup) (s : Plain) (h : ℕ) (op : Op) (c : Computed) (e : Eff
       ∙ ap (λ (d : Computed). effect_of (op_at_pc setup s h) d (read (op_at_pc setup s h) s.bytes d.addr)
       (holds_word (s.reserved h) d.addr)) of_computed
 
-  -- A local step.
-  pub goes_by_one : (x y : Hart) → code_writable setup.image ≡ false → h < setup.harts → HartAgrees s h x
-      → is_going_status x.status ≡ true → is_local_of op c ≡ true → ((now : ℕ) (held : Bool) → e ≡ effect_of op c now held) → HasAdvanced op e x y
-      → GoesOn setup h 1 s y
-  goes_by_one x y fixed inside is going local effect advanced =
+  -- A step that is followed is local.
+  followed_is_local : (tables : Tables) → AllowsAll tables → code_writable setup.image ≡ false → is_silent op c ≡ true
+      → is_local setup tables h s ≡ true
+  followed_is_local tables allows fixed silent =
+      let now : is_silent (op_at_pc setup s h) (computes setup s h) ≡ true =
+      ap (λ o. is_silent o (computes setup s h)) (sym of_op) ∙ ap (is_silent op) (sym of_computed) ∙ silent in
+      silent_steps_are_local setup tables h s
+      (second_no (tables.rewritten (s.pcs h)) (code_writable setup.image) fixed)
+      (either_left (is_silent (op_at_pc setup s h) (computes setup s h)) (lacks_reservation setup h s) now)
+      (every_step_fits setup tables allows h s)
+
+  pub goes_by_one : (tables : Tables) (x y : Hart) → AllowsAll tables → code_writable setup.image ≡ false
+      → h < setup.harts → HartAgrees s h x → is_going_status x.status ≡ true → is_silent op c ≡ true
+      → ((now : ℕ) (held : Bool) → e ≡ effect_of op c now held) → HasAdvanced op e x y
+      → GoesOn setup tables h 1 s y
+  goes_by_one tables x y allows fixed inside is going silent effect advanced =
       let same = after_same setup s h op c.addr e of_op (ap (λ (d : Computed). d.addr) of_computed)
       (effect_same (effect (read op s.bytes c.addr) (holds_word (s.reserved h) c.addr))) in
-      let here : is_local setup h s ≡ true =
-      ap (λ b. not b && is_local_of (op_at_pc setup s h) (computes setup s h)) fixed
-      ∙ ap (λ o. is_local_of o (computes setup s h)) (sym of_op) ∙ ap (is_local_of op) (sym of_computed) ∙ local in
       let quiet : IsQuiet op c.addr e =
-      subst (IsQuiet op c.addr) (sym (effect 0 false)) ((local_step op c local).quiet c.addr 0 false) in
+      subst (IsQuiet op c.addr) (sym (effect 0 false)) ((silent_step op c silent).quiet c.addr 0 false) in
       record {
         there = stepped setup h s;
-        local = (can_go setup s h x inside is going, here, refl);
+        local = (can_go setup s h x inside is going, followed_is_local tables allows fixed silent, refl);
         agrees = hart_behind setup s h op c.addr e x y is advanced same;
         others = subst (OthersStay h s) same (quiet_stays s h op c.addr e
             (subst (λ o. destination o < 32) (sym of_op) (written_below setup s h)) quiet);

@@ -7,15 +7,17 @@ use Rattle.std.proofs.lemmas.List.{get_or-set_other, get_or-set_same, length-set
 use Rattle.std.proofs.lemmas.Option.{get_or_from_slice_get, slice_get_within}
 use Rattle.smt_model.specs.{Setup.Setup, Plain.is_going_status}
 use Rattle.outcome_laws.specs.{Paths.can_step, Paths.stepped}
+use Rattle.outcome_laws.proofs.Fitting.{every_step_fits}
 use Rattle.sc_machine.specs.declared.hart.Hart.{Hart}
 use Rattle.changed_memory.specs.Shared.{Shared}
-use Rattle.condensed_machine.specs.Machine.{Program, IsSound, Machine, Grows, HasCode, InEachSetup}
+use Rattle.condensed_machine.specs.Machine.{Program, IsSound, tables_of, Machine, Grows, HasCode, InEachSetup}
 use Rattle.condensed_machine.specs.Decoded.{Decoded, decoded, full, hart_at, hart_in, no_shared, numbers_of}
-use Rattle.condensed_machine.specs.Decoded.{Knows}
+use Rattle.condensed_machine.specs.Decoded.{Knows, state_of}
 use Rattle.condensed_machine.specs.Executing.{IsExecuted, IsBehind, ComesToRest, InEachState, SharedAfter}
 use Rattle.condensed_machine.specs.{Tables.HasNumber, Tables.IsSharedAfter, Steps.SettlesBy, Steps.MakesStep}
-use Rattle.condensed_machine.specs.{declared.executed.Executed.Executed, declared.state.State.State}
-use Rattle.condensed_machine.proofs.Instructions.{can_go}
+use Rattle.condensed_machine.specs.{Resting.keeps_reservation, declared.executed.Executed.Executed}
+use Rattle.condensed_machine.specs.{declared.state.State.State}
+use Rattle.condensed_machine.proofs.{Instructions.can_go, Instructions.allows_all}
 use Rattle.condensed_machine.proofs.Moving.{IsNext, settles_by, hart_is}
 use Rattle.condensed_machine.specs.Learning.{still_decoded, still_numbered, kept_within}
 use Rattle.condensed_machine.proofs.Numbers.{own_number, other_number}
@@ -36,7 +38,8 @@ pub record HasDone (m n : Machine) (s t : State) (h steps : ℕ) (x : Hart) (com
   pub has : HasNumber n.hart_states moved number
   pub numbered : numbers_of n t ≡ slice_set (numbers_of m s) h number
   pub far : t.far < length n.far_harts
-  pub shared : IsSharedAfter m.program.image h done common n.shared_states t.shared
+  pub shared : IsSharedAfter m.program.image h done (keeps_reservation m.program.live moved) common n.shared_states
+      t.shared
 
 abbrev pub HasMoved : Machine → Machine → State → State → ℕ → ℕ → Type 0
 HasMoved m n s t h steps = HasDone m n s t h steps (hart_in m s h) (decoded m s).shared
@@ -72,7 +75,8 @@ module _ (m n : Machine) (s t : State) (h steps : ℕ) (sound : IsSound m.progra
     rests = moved.rests;
     own = own;
     others = others;
-    shared = subst (λ (after : Shared). SharedAfter m.program.image h moved.done (decoded m s).shared after)
+    shared = subst (λ (after : Shared). SharedAfter m.program.image h moved.done
+        (keeps_reservation m.program.live moved.moved) (decoded m s).shared after)
         (sym (get_or_from_slice_get n.shared_states t.shared moved.shared.after no_shared moved.shared.has))
         moved.shared.is;
   }
@@ -98,7 +102,11 @@ module _ (m n : Machine) (s t : State) (h steps : ℕ) (sound : IsSound m.progra
       (harts ∙ ap (λ (p : Program). p.harts) grows.program) in
       let then = subst (λ p. Makes setup p (decoded n s)) (sym grows.program)
       (subst (λ d. Makes setup m.program d) (sym (still_decoded m n s grows knows)) now) in
-      record { can = then.0; leads = then.1 }
+      record {
+        can = then.0;
+        fits = every_step_fits setup (tables_of n.program) (allows_all n.program) h (state_of n s);
+        leads = then.1;
+      }
 
   pub known : Knows n t
   known = record {

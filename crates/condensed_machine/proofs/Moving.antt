@@ -1,23 +1,27 @@
 -- A step of a hart, from the parts of the state before it to those behind it.
 use Rattle.std.proofs.Common.{◌≡◌, ◌≢◌, ℕ, ◌<◌, true, false, replicate, refl, sym, ap, subst, ◌∙◌, arith, inl, inr}
-use Rattle.std.specs.Prelude.{◌==◌, if◌then◌else◌, nat_lt, slice_index}
+use Rattle.std.specs.Prelude.{◌==◌, ◌&&◌, not, Bool, if◌then◌else◌, nat_lt, slice_index}
 use Rattle.std.proofs.lemmas.Bool.{cases_eq, Decides.nat_tests}
 use Rattle.smt_model.specs.{declared.config.Status.TheVariants.Going}
 use Rattle.smt_model.specs.{Setup.Setup, Kinds.destination, Bytes.byte_after, Reservations.reservation_after}
-use Rattle.smt_model.specs.Plain.{Plain, after, output_after}
-use Rattle.outcome_laws.specs.{Paths.stepped, Paths.HasItsCode}
+use Rattle.smt_model.specs.Plain.{Plain, after, output_after, is_going_status}
+use Rattle.elf_image.specs.Image.{ProgramImage}
+use Rattle.outcome_laws.specs.{Paths.stepped, Paths.HasItsCode, Live.reservation_matters}
+use Rattle.live_registers.specs.Table.{kept_of}
 use Rattle.outcome_laws.proofs.Holding.{has_next}
 use Rattle.sc_machine.specs.{Harts.HartAgrees, declared.hart.Hart.Hart}
-use Rattle.changed_memory.specs.Shared.{Shared}
+use Rattle.changed_memory.specs.Shared.{Shared, byte_at, reserved_at}
 use Rattle.condensed_machine.specs.{Settling.HartsStay, Settling.OthersStay, Settling.GoesOn}
-use Rattle.condensed_machine.specs.{Machine.Program, Machine.IsSound, Machine.HasCode, Steps.SettlesBy}
+use Rattle.condensed_machine.specs.{Machine.Program, Machine.tables_of, Machine.IsSound, Machine.HasCode}
+use Rattle.condensed_machine.specs.{Steps.SettlesBy, Resting.keeps_reservation, Executing.is_dropped}
 use Rattle.condensed_machine.specs.Decoded.{Decoded, full, hart_at, register_of}
 use Rattle.condensed_machine.specs.Executing.{SharedAgrees, SharedAfter, IsExecuted, IsBehind, ComesToRest, InEachState}
 use Rattle.condensed_machine.specs.declared.executed.Executed.{Executed}
 use Rattle.condensed_machine.proofs.Coded.{code_in}
 use Rattle.condensed_machine.proofs.Alike.{IsKeptAs, alike_by_harts, register_in, full_beyond, still_beyond}
 use Rattle.condensed_machine.proofs.Alike.{rests_as, stays_as, full_as}
-use Rattle.condensed_machine.proofs.Instructions.{after_same, harts_after, written_below}
+use Rattle.condensed_machine.proofs.Instructions.{after_same, harts_after, written_below, allows_all}
+use Rattle.condensed_machine.proofs.Instructions.{second_no}
 
 inside_test : (h harts : ℕ) → h < harts → nat_lt h harts ≡ true
 inside_test h harts inside = grind (arith, nat_tests)
@@ -46,20 +50,27 @@ hart_is p d h inside zero =
 pub shared_is : (p : Program) (d : Decoded) → SharedAgrees p.image (full p d) d.shared
 shared_is p d = record { reserved = λ h. refl; bytes = λ a. refl; output = refl }
 
+-- What harts share is so in s, but for hart h's reservation where that isn't kept.
+record SharedStays (image : ProgramImage) (h : ℕ) (kept : Bool) (s : Plain) (shared : Shared) : Type 0 where
+  reserved : (g : ℕ) → is_dropped h kept g ≡ false → reserved_at shared g ≡ s.reserved g
+  bytes : (a : ℕ) → byte_at image shared a ≡ s.bytes a
+  output : shared.output ≡ s.output
+
 -- What harts share behind an instruction.
-shared_behind : (setup : Setup) (p : Program) (s : Plain) (h : ℕ) (e : Executed) (old new : Shared)
-    → SharedAgrees p.image s old → SharedAfter p.image h e old new
-    → SharedAgrees p.image (after s h e.op e.addr e.effect) new
-shared_behind setup p s h e old new agrees is = record {
-  reserved = λ g. is.reserved g ∙ ap (reservation_after e.op e.addr e.effect (g == h)) (agrees.reserved g);
+shared_behind : (setup : Setup) (p : Program) (s : Plain) (h : ℕ) (e : Executed) (kept : Bool) (old new : Shared)
+    → SharedAgrees p.image s old → SharedAfter p.image h e kept old new
+    → SharedStays p.image h kept (after s h e.op e.addr e.effect) new
+shared_behind setup p s h e kept old new agrees is = record {
+  reserved = λ g stays.
+      is.reserved g stays ∙ ap (reservation_after e.op e.addr e.effect (g == h)) (agrees.reserved g);
   bytes = λ a. is.bytes a ∙ ap (byte_after e.effect.write a) (agrees.bytes a);
   output = is.output ∙ ap (output_after e.effect.out) agrees.output;
 }
 
-shared_stays : (p : Program) (h : ℕ) (s t : Plain) (shared : Shared) → OthersStay h s t → SharedAgrees p.image s shared
-    → SharedAgrees p.image t shared
-shared_stays p h s t shared others agrees = record {
-  reserved = λ g. agrees.reserved g ∙ sym (others.reserved g);
+shared_stays : (p : Program) (h : ℕ) (kept : Bool) (s t : Plain) (shared : Shared) → OthersStay h s t
+    → SharedStays p.image h kept s shared → SharedStays p.image h kept t shared
+shared_stays p h kept s t shared others agrees = record {
+  reserved = λ g stays. agrees.reserved g stays ∙ sym (others.reserved g);
   bytes = λ a. agrees.bytes a ∙ sym (others.bytes a);
   output = agrees.output ∙ sym others.output;
 }
@@ -72,7 +83,7 @@ pub record IsNext (p : Program) (d e : Decoded) (h : ℕ) (done : Executed) (ste
   pub rests : ComesToRest p behind steps y
   pub own : hart_at e.harts h ≡ y
   pub others : (g : ℕ) → g ≢ h → hart_at e.harts g ≡ hart_at d.harts g
-  pub shared : SharedAfter p.image h done d.shared e.shared
+  pub shared : SharedAfter p.image h done (keeps_reservation p.live y) d.shared e.shared
 
 module _ (p : Program) (d e : Decoded) (h steps : ℕ) (done : Executed) (y : Hart) (sound : IsSound p)
     (inside : h < p.harts) (zero : slice_index (hart_at d.harts h).registers 0 ≡ 0) (code : HasCode p.image d.shared)
@@ -93,16 +104,34 @@ module _ (p : Program) (d e : Decoded) (h steps : ℕ) (done : Executed) (y : Ha
   holds : HasItsCode setup behind
   holds = has_next setup h (full p d) (code_in setup p.image (full p d) d.shared image (shared_is p d) code)
 
-  goes : GoesOn setup h steps behind next.rests.moved
+  goes : GoesOn setup (tables_of p) h steps behind next.rests.moved
   goes =
-      next.rests.settles.leads setup h behind image there holds
+      next.rests.settles.leads setup (tables_of p) h behind (allows_all p) image there holds
       (next.is_behind setup (full p d) image there (hart_is p d h inside zero) (shared_is p d))
 
-  shared : SharedAgrees p.image goes.there e.shared
+  abbrev keeps : Bool
+  keeps = keeps_reservation p.live y
+
+  shared : SharedStays p.image h keeps goes.there e.shared
   shared =
-      shared_stays p h behind goes.there e.shared goes.others
-      (subst (λ s. SharedAgrees p.image s e.shared) same
-      (shared_behind setup p (full p d) h done d.shared e.shared (shared_is p d) next.shared))
+      shared_stays p h keeps behind goes.there e.shared goes.others
+      (subst (λ s. SharedStays p.image h keeps s e.shared) same
+      (shared_behind setup p (full p d) h done keeps d.shared e.shared (shared_is p d) next.shared))
+
+  -- Where hart h's reservation matters it is kept.
+  matters_there : (g : ℕ) → reservation_matters (kept_of p.live) goes.there g ≡ true → is_dropped h keeps g ≡ false
+  matters_there g matter = elim (cases_eq g h) [
+    | inl own ↦
+        let rested = next.rests.rested in
+        let kept : keeps ≡ true =
+        ap (λ status. is_going_status status && kept_of p.live y.pc) (rested.status ∙ goes.agrees.status)
+        ∙ ap (λ pc. is_going_status (goes.there.statuses h) && kept_of p.live pc) (rested.pc ∙ goes.agrees.pc)
+        ∙ subst (λ k. reservation_matters (kept_of p.live) goes.there k ≡ true) own matter in
+        ap (λ b. g == h && not b) kept ∙ second_no (g == h) false refl
+    | inr other ↦
+        let apart : (g == h) ≡ false = grind (arith, nat_tests) in
+        ap (λ b. b && not keeps) apart
+  ]
 
   stayed : HartsStay h (full p d) behind
   stayed = subst (HartsStay h (full p d)) same (harts_after (full p d) h done.op done.addr done.effect
@@ -129,7 +158,11 @@ module _ (p : Program) (d e : Decoded) (h steps : ℕ) (done : Executed) (y : Ha
       order = replicate steps h;
       there = goes.there;
       local = goes.local;
-      alike = alike_by_harts p goes.there e kept shared;
+      alike = alike_by_harts p goes.there e kept (record {
+        reserved = λ g matter. shared.reserved g (matters_there g matter);
+        bytes = shared.bytes;
+        output = shared.output;
+      });
     };
     by = refl;
   }

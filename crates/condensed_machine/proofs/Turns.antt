@@ -14,12 +14,13 @@ use Rattle.elf_image.specs.Image.{byte_in}
 use Rattle.changed_memory.specs.Shared.{Shared, changed, reserved_at}
 use Rattle.condensed_machine.specs.{Resting.IsRested, Settling.HartsStay, Settling.GoesOn}
 use Rattle.condensed_machine.specs.{Tables.HasNumber, Steps.SettlesBy, Steps.turns}
-use Rattle.condensed_machine.specs.{Machine.Program, Machine.IsSound, Executing.SharedAgrees}
+use Rattle.condensed_machine.specs.{Machine.Program, Machine.tables_of, Machine.IsSound}
+use Rattle.condensed_machine.specs.{Executing.SharedAgrees}
 use Rattle.condensed_machine.specs.Beginning.{HaveBegun}
 use Rattle.condensed_machine.specs.Decoded.{Decoded, full, hart_at}
 use Rattle.condensed_machine.proofs.Alike.{IsKeptAs, IsFirstBeyond, alike_by_harts, register_absent}
 use Rattle.condensed_machine.proofs.Alike.{still_beyond, rests_as}
-use Rattle.condensed_machine.proofs.Following.{paths_join, agrees_still}
+use Rattle.condensed_machine.proofs.{Following.paths_join, Following.agrees_still, Instructions.allows_all}
 
 first_reads : (r n : ℕ) → (r ≡ 0 → n ≡ 0) → n ≡ (if r == 0 then 0 else n)
 first_reads r n at_zero = grind (arith, nat_tests)
@@ -40,7 +41,7 @@ module _ (p : Program) (table : List Hart) (ways numbers : List ℕ) (setup : Se
   -- The harts before h have come to rest in s, and nothing else has changed since the start.
   record IsAt (h : ℕ) : Type 0 where
     there : Plain
-    local : IsLocalPath setup (turns ways h) (start setup) there
+    local : IsLocalPath setup (tables_of p) (turns ways h) (start setup) there
     settled : (g : ℕ) → g < h → IsSettledAs p there table g (slice_index numbers g)
     registers : (g r : ℕ) → h ≤ g → there.registers g r ≡ first_number p.harts g r
     beyond : IsFirstBeyond p there
@@ -88,15 +89,14 @@ module _ (p : Program) (table : List Hart) (ways numbers : List ℕ) (setup : Se
   one_turn h inside now =
       let own = begun h inside in
       let there : h < setup.harts = omega (arith, harts) in
-      let goes : GoesOn setup h (slice_index ways h) now.there own.rests.moved =
-      own.rests.settles.leads setup h now.there image there
-      (has_local setup (turns ways h) (start setup) now.there (paths_keep_code setup).0 now.local)
+      let goes : GoesOn setup (tables_of p) h (slice_index ways h) now.there own.rests.moved =
+      own.rests.settles.leads setup (tables_of p) h now.there (allows_all p) image there
+      (has_local setup (tables_of p) (turns ways h) (start setup) now.there (paths_keep_code setup).0 now.local)
       (first_agrees h now own.first own.is_first) in
       record {
         there = goes.there;
-        local = paths_join setup (turns ways h) (replicate (slice_index ways h) h) (start setup) now.there goes.there
-            now.local
-            goes.local;
+        local = paths_join setup (tables_of p) (turns ways h) (replicate (slice_index ways h) h) (start setup) now.there
+            goes.there now.local goes.local;
         settled = λ g below. elim (cases_eq g h) [
           | inl same ↦
               subst (λ k. IsSettledAs p goes.there table k (slice_index numbers k)) (sym same)
@@ -163,7 +163,7 @@ module _ (p : Program) (table : List Hart) (ways numbers : List ℕ) (setup : Se
         there = end.there;
         local = end.local;
         alike = alike_by_harts p end.there d kept (record {
-          reserved = λ g. shared.reserved g ∙ sym (end.reserved g);
+          reserved = λ g matter. shared.reserved g ∙ sym (end.reserved g);
           bytes = λ a. shared.bytes a ∙ sym (end.bytes a);
           output = shared.output ∙ sym end.output;
         });

@@ -6,11 +6,11 @@ use Rattle.std.proofs.lemmas.Option.{slice_get-get_or, get_or_from_slice_get, sl
 use Rattle.std.specs.Cmp.{first_so, second_so, unsigned_Decides}
 use Rattle.std.specs.Cmp.Lexicographic.{pointwise, pointwise_decides}
 use Rattle.smt_model.specs.{Setup.Setup, Plain.Plain}
-use Rattle.outcome_laws.specs.{Paths.can_step, Paths.stepped}
+use Rattle.outcome_laws.specs.{Paths.can_step, Paths.stepped, Local.fits}
 use Rattle.sc_machine.specs.declared.hart.Hart.{Hart}
 use Rattle.changed_memory.specs.Shared.{Shared}
 use Rattle.searches.specs.declared.step.Step.{Step}
-use Rattle.condensed_machine.specs.Machine.{Program, Machine, Grows, Keeps}
+use Rattle.condensed_machine.specs.Machine.{Program, tables_of, Machine, Grows, Keeps}
 use Rattle.condensed_machine.specs.Decoded.{Decoded, decoded, full, hart_at, no_hart, no_shared, numbers_of}
 use Rattle.condensed_machine.specs.Decoded.{state_of, Knows}
 use Rattle.condensed_machine.specs.Steps.{SettlesBy, MakesStep, Steps}
@@ -95,6 +95,9 @@ still_makes m n s h step setup grows knows next makes =
     let order = replicate step.way h in
     record {
       can = ap (can_step setup h) here ∙ makes.can;
+      fits =
+          ap (fits setup (tables_of n.program) h) here
+          ∙ ap (λ (p : Program). fits setup (tables_of p) h (state_of m s)) grows.program ∙ makes.fits;
       leads =
           subst (λ (p : Program). SettlesBy setup p order (stepped setup h (state_of n s)) (state_of n step.state))
           (sym grows.program)

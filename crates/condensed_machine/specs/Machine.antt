@@ -1,30 +1,41 @@
 -- What a machine has that numbers the parts of its states.
-use Rattle.std.specs.Prelude.{◌≡◌, ℕ, ◌<◌, ◌≤◌, Bool, false, List, length, Some, slice_index, slice_get}
+use Rattle.std.specs.Prelude.{◌≡◌, ℕ, ◌<◌, ◌≤◌, Bool, true, false, List, length, Some, slice_index, slice_get}
 use Rattle.numbers.specs.Sizes.{most_harts}
 use Rattle.elf_image.specs.Image.{ProgramImage, code_writable}
 use Rattle.smt_model.specs.{Setup.Setup}
 use Rattle.smt_laws.specs.Code.{HoldsItsCode}
-use Rattle.outcome_laws.specs.Live.{IsLiveTable}
-use Rattle.live_registers.specs.Table.{live_of}
+use Rattle.outcome_laws.specs.Tables.{Tables, IsTables}
+use Rattle.live_registers.specs.Table.{live_of, kept_of}
 use Rattle.live_registers.specs.declared.table.LiveTable.{LiveTable}
 use Rattle.sc_machine.specs.declared.hart.Hart.{Hart}
 use Rattle.changed_memory.specs.Shared.{Shared, byte_at}
 
 -- What is searched: an image, how many harts run it, which registers are wanted of each at its end, by their
--- numbers, and which registers may be read yet at each pc.
+-- numbers, and which registers may be read yet at each pc, and where a reservation may be used yet.
 pub record Program : Type 0 where
   pub image : ProgramImage
   pub harts : ℕ
   pub watched : List Bool
   pub live : LiveTable
 
--- There are harts, and no more than there may be; each register is watched or isn't; the table of live
--- registers is good.
+-- What is known ahead of each step: which registers are live, and where a reservation is kept. All else is as in any
+-- program.
+abbrev pub tables_of : Program → Tables
+tables_of p = record {
+  live = live_of p.live;
+  kept = kept_of p.live;
+  targets = λ pc to. true;
+  ahead = λ h pc what writes. true;
+  rewritten = λ word. true;
+  seen = λ word. true;
+}
+
+-- There are harts, and no more than there may be; each register is watched or isn't; the tables are good.
 pub record IsSound (p : Program) : Type 0 where
   pub some : 0 < p.harts
   pub few : p.harts ≤ most_harts
   pub registers : length p.watched ≡ 32
-  pub live : IsLiveTable p.image (live_of p.live)
+  pub tables : IsTables p.image (tables_of p)
 
 -- The program, and the harts and shared parts found so far, and the numbers of the harts behind the first ones of a
 -- state. The number of one is its place.

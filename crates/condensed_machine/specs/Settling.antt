@@ -1,9 +1,10 @@
 -- What a hart that follows its local steps comes to, in the words of the definitions' machine.
-use Rattle.std.specs.Prelude.{◌≡◌, ℕ, ◌<◌, ◌≤◌, ◌==◌, ◌&&◌, Bool, true, false, replicate}
-use Rattle.elf_image.specs.Image.{ProgramImage}
-use Rattle.smt_model.specs.{Setup.Setup, Plain.Plain}
+use Rattle.std.specs.Prelude.{◌≡◌, ℕ, ◌<◌, ◌≤◌, ◌==◌, ◌&&◌, not, Bool, true, false, replicate}
+use Rattle.elf_image.specs.Image.{ProgramImage, code_writable}
+use Rattle.smt_model.specs.{Setup.Setup, Plain.Plain, Plain.op_at_pc, Plain.computes}
 use Rattle.sc_machine.specs.{Harts.HartAgrees, declared.hart.Hart.Hart}
-use Rattle.outcome_laws.specs.{Paths.can_step, Paths.HasItsCode, Local.is_local, Search.IsLocalPath}
+use Rattle.outcome_laws.specs.{Paths.can_step, Paths.HasItsCode, Tables.Tables, Tables.AllowsAll}
+use Rattle.outcome_laws.specs.{Local.is_silent, Search.IsLocalPath}
 
 -- How many local steps are followed at once.
 abbrev pub most_local_steps : ℕ
@@ -24,21 +25,27 @@ pub record OthersStay (h : ℕ) (s t : Plain) : Type 0 where
   pub output : t.output ≡ s.output
 
 -- So many local steps of hart h lead from s to a state in which the hart is y, and nothing else has changed.
-pub record GoesOn (setup : Setup) (h steps : ℕ) (s : Plain) (y : Hart) : Type 0 where
+pub record GoesOn (setup : Setup) (tables : Tables) (h steps : ℕ) (s : Plain) (y : Hart) : Type 0 where
   pub there : Plain
-  pub local : IsLocalPath setup (replicate steps h) s there
+  pub local : IsLocalPath setup tables (replicate steps h) s there
   pub agrees : HartAgrees there h y
   pub others : OthersStay h s there
 
--- Whichever hart x is, in whatever state, so many local steps make y of it.
+-- Whichever hart x is, in whatever state, so many steps make y of it that are local in any tables that allow all.
 abbrev pub LeadsLocally : ProgramImage → Hart → ℕ → Hart → Type 0
-LeadsLocally image x steps y = (setup : Setup) (h : ℕ) (s : Plain) → setup.image ≡ image → h < setup.harts
-    → HasItsCode setup s → HartAgrees s h x → GoesOn setup h steps s y
+LeadsLocally image x steps y = (setup : Setup) (tables : Tables) (h : ℕ) (s : Plain) → AllowsAll tables
+    → setup.image ≡ image → h < setup.harts → HasItsCode setup s → HartAgrees s h x
+    → GoesOn setup tables h steps s y
 
--- Whichever hart x is, in whatever state, it doesn't go or its next step isn't local.
+-- The next step of hart h is followed: the code may not be written, and the step ends or stops its hart, or neither
+-- touches memory nor puts a byte out. Any such step is local.
+abbrev pub is_followed : Setup → ℕ → Plain → Bool
+is_followed setup h s = not (code_writable setup.image) && is_silent (op_at_pc setup s h) (computes setup s h)
+
+-- Whichever hart x is, in whatever state, it doesn't go or its next step isn't one that is followed.
 abbrev pub StandsStill : ProgramImage → Hart → Type 0
 StandsStill image x = (setup : Setup) (h : ℕ) (s : Plain) → setup.image ≡ image → HasItsCode setup s
-    → HartAgrees s h x → (can_step setup h s && is_local setup h s) ≡ false
+    → HartAgrees s h x → (can_step setup h s && is_followed setup h s) ≡ false
 
 -- One local step makes y of x, where one was made; else there is none, and y is x.
 abbrev pub StepsLocally : ProgramImage → Hart → Bool → Hart → Type 0

@@ -1,5 +1,6 @@
 //! The plain machine for a search over its states, of which it keeps few: those in which each hart that goes
-//! has a step next that other harts may see, with 0 in each register that nobody reads again.
+//! has a step next that other harts may see, with 0 in each register that nobody reads again, and no reservation of a
+//! hart that has stepped and can't use it.
 //!
 //! Read in this order: `local` (a step that other harts don't see), `settling` (how a hart follows its own),
 //! `resting` (which registers it keeps), `program` (what is searched), `executed` and `tables` (what a step

@@ -3,7 +3,7 @@
 ghost use Rattle.std.specs.Prelude.{◌≡◌, ℕ, Bool, true, false, IfSome, is_some};
 ghost use Rattle.elf_image.specs.Image.{byte_in, code_writable};
 ghost use Rattle.decoded_code.specs.Code.{IsCodeOf};
-ghost use Rattle.outcome_laws.specs.Local.{is_local_of};
+ghost use Rattle.outcome_laws.specs.Local.{is_silent};
 ghost use Rattle.smt_model.specs.Effects.{effect_of};
 ghost use Rattle.condensed_machine.specs.Settling.{StepsLocally};
 
@@ -17,7 +17,7 @@ use shared_memory::Memory;
 /// The effect of an instruction that ends or stops its hart, or neither touches memory nor puts a byte out:
 /// it is the same whatever memory holds. None for any other.
 fn local_effect(op: Op, computed: Computed) -> Option<Effect>
-    ensures local { is_some result ≡ is_local_of op computed }
+    ensures local { is_some result ≡ is_silent op computed }
     ensures effect { IfSome result (λ effect. (now : ℕ) (held : Bool)
         → effect ≡ effect_of op computed now held) }
 {

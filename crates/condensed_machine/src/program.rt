@@ -9,6 +9,7 @@ ghost use Rattle.numbers.specs.Sizes.{most_harts};
 ghost use Rattle.shared_memory.specs.Contents.{CanWrite, IsStart};
 ghost use Rattle.sc_machine.specs.Harts.{IsFirst};
 ghost use Rattle.condensed_machine.specs.Machine.{HasCode, IsSound};
+ghost use Rattle.condensed_machine.specs.Resting.{keeps_reservation};
 ghost use Rattle.condensed_machine.specs.Executing.{InEachState, IsExecuted, IsBehind, ComesToRest};
 
 use crate::executed::Executed;
@@ -146,5 +147,12 @@ impl Program {
         let steps = settle(&self.start, &self.code, self.writable, state);
         rest(&self.live, &self.watched, state);
         steps
+    }
+
+    /// Whether a hart's reservation is kept: the hart goes, and may use it yet.
+    pub(crate) fn keeps_reservation(&self, state: &Hart) -> bool
+        ensures { result ≡ keeps_reservation self.now.live state.now }
+    {
+        state.is_going() && self.live.is_kept(state.pc)
     }
 }

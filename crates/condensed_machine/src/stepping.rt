@@ -33,6 +33,7 @@ impl CondensedMachine {
         let shared = self.shared(state);
         let executed = self.program.execute(shared, hart, &mut own);
         let way = self.program.come_to_rest(&mut own);
+        let is_kept = self.program.keeps_reservation(&own);
         let number = number_hart(&mut self.hart_states, own)?;
         let shared_number = number_shared(
             &mut self.shared_states,
@@ -41,6 +42,7 @@ impl CondensedMachine {
             state.shared,
             hart,
             executed,
+            is_kept,
             self.alloc,
         )?;
         let next = moved(&mut self.far_harts, state, hart, number, shared_number)?;

@@ -1,11 +1,13 @@
 //! The harts and the shared parts that were found, by their numbers.
 
-ghost use Rattle.std.specs.Prelude.{◌≡◌, ℕ, ◌<◌, Some, IfOk, IfSome, slice_index, slice_get, length};
+ghost use Rattle.std.specs.Prelude.{◌≡◌, ℕ, ◌<◌, false, Some, IfOk, IfSome, slice_index, slice_get, length};
 ghost use Rattle.numbers.specs.Sizes.{most_harts};
 ghost use Rattle.shared_memory.specs.Contents.{CanWrite, IsStart};
 ghost use Rattle.elf_image.specs.Image.{ProgramImage};
 ghost use Rattle.condensed_machine.specs.Machine.{HasCode, HaveCode, HaveZero, Keeps};
+ghost use Rattle.changed_memory.specs.Shared.{reserved_at};
 ghost use Rattle.condensed_machine.specs.Decoded.{shared_at};
+ghost use Rattle.condensed_machine.specs.Executing.{is_dropped};
 ghost use Rattle.condensed_machine.specs.Tables.{HasNumber, IsSharedAfter};
 
 use crate::executed::Executed;
@@ -27,7 +29,7 @@ pub(crate) fn number_hart(harts: &mut IndexSet<Hart>, hart: Hart) -> Result<u32,
 }
 
 /// The number of what the harts share behind an instruction of a hart, from what they shared before, which
-/// has a number. Errors: want of memory.
+/// has a number. The hart's reservation is dropped unless it is kept. Errors: want of memory.
 pub(crate) fn number_shared(
     shared: &mut IndexSet<SharedState>,
     scratch: &mut SharedState,
@@ -35,6 +37,7 @@ pub(crate) fn number_shared(
     before: u32,
     hart: u8,
     executed: Executed,
+    is_kept: bool,
     alloc: Global,
 ) -> Result<u32, AllocError>
     requires inside { before < length shared.old.keys }
@@ -42,17 +45,39 @@ pub(crate) fn number_shared(
     requires start { IsStart start.now.image start.now }
     requires allowed { IfSome executed.effect.write (CanWrite start.now.image) }
     ensures kept { Keeps shared.old.keys shared.new.keys }
-    ensures number { IfOk result (λ number. IsSharedAfter start.now.image hart executed
+    ensures number { IfOk result (λ number. IsSharedAfter start.now.image hart executed is_kept
         (shared_at shared.old.keys before) shared.new.keys number) }
     ensures code { HaveCode start.now.image shared.old.keys → HaveCode start.now.image shared.new.keys }
 {
     let Executed { op, addr, effect } = executed;
-    if keeps_shared(op, effect) {
+    if keeps_shared(op, effect) && (is_kept || !has_reservation(shared, before, hart)) {
         return Ok(before);
     }
     scratch.copy_from(&shared.as_slice()[before as usize])?;
     scratch.advance(start, hart, op, addr, effect)?;
+    rest_reservation(scratch, hart, is_kept);
     number_of_shared(shared, scratch, alloc)
+}
+
+/// Whether a hart has a reservation in the shared parts with a number.
+fn has_reservation(shared: &IndexSet<SharedState>, number: u32, hart: u8) -> bool
+    requires inside { number < length shared.now.keys }
+    requires hart { hart < most_harts }
+{
+    shared.as_slice()[number as usize].has_reservation(hart)
+}
+
+/// Drops a hart's reservation unless it is kept.
+fn rest_reservation(shared: &mut SharedState, hart: u8, is_kept: bool)
+    requires { hart < most_harts }
+    ensures changes { shared.new.changes ≡ shared.old.changes }
+    ensures reserved { (h : ℕ) → is_dropped hart is_kept h ≡ false
+        → reserved_at shared.new h ≡ reserved_at shared.old h }
+    ensures output { shared.new.output ≡ shared.old.output }
+{
+    if !is_kept {
+        shared.end_reservation(hart);
+    }
 }
 
 /// The number of shared parts: their place, which is the last where they weren't there. They are copied only

@@ -5,6 +5,7 @@ pub mod OfStep
 pub mod OfPrompt
 pub mod OfRun
 pub mod OfStress
+pub mod OfTestRuns
 pub mod OfCheck
 pub mod OfScript
 pub mod OfChart

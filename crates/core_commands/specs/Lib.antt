@@ -6,6 +6,7 @@ pub mod Prompt
 pub mod Run
 pub mod Watching
 pub mod Stress
+pub mod TestRuns
 pub mod Check
 pub mod Script
 pub mod Chart

@@ -2,7 +2,8 @@
 //!
 //! Read in this order: `wanted` (what is wanted of a core), `core_story` (the story of one), `account` (what is
 //! reported of one), then a module a command: `step`, `prompt` (the same of a script that is typed), `run`, `watching`
-//! (what is watched of many runs), `stress` (many runs), `check`, `script`, `chart` and `migrate`. What each command
+//! (what is watched of many runs), `stress` (many runs), `test_runs` (many runs of
+//! a litmus test), `check`, `script`, `chart` and `migrate`. What each command
 //! comes to, and when each of its refusals comes, stands in `specs` under the command's name.
 #![tactic(auto)]
 
@@ -19,6 +20,7 @@ mod run;
 mod script;
 mod step;
 mod stress;
+mod test_runs;
 mod wanted;
 mod watching;
 mod why;
@@ -32,4 +34,5 @@ pub use run::{perform_run, run_bytes};
 pub use script::perform_script;
 pub use step::{perform_step, step_bytes};
 pub use stress::perform_stress;
+pub use test_runs::perform_test_runs;
 pub use wanted::{CoreStory, Wanted};

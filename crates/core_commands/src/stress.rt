@@ -150,7 +150,7 @@ fn report_asked<W: Write>(
 }
 
 /// Makes so many runs, which the gate is shown, and counts their ends.
-fn tally_runs<
+pub(crate) fn tally_runs<
     G: Gate + Sync,
     P: Predict + Copy + Send,
     F: EndFiles,
@@ -195,7 +195,7 @@ fn tally_runs<
 }
 
 /// How many runs are made where so many are asked for.
-fn runs_of(times: u32) -> u32
+pub(crate) fn runs_of(times: u32) -> u32
     ensures asked { result ≡ runs_of times }
     ensures some { 1 ≤ result }
 {

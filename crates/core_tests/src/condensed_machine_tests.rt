@@ -22,6 +22,9 @@ static COUNTER: [u32; 7] = [
     0x0000_0073,
 ];
 
+/// `lui x5,0x80001`, `lr.w x7,(x5)`, `jal x0,-4`: a hart reserves a word again and again, and no SC uses that.
+static RESERVING: [u32; 3] = [0x8000_12b7, 0x1002_a3af, 0xffdf_f06f];
+
 /// What was seen of a machine on its way.
 #[derive(Clone, Copy, Drop)]
 struct Seen {
@@ -93,4 +96,23 @@ fn a_step_is_followed_by_local_ones(rt: HostRuntime) {
             holds(&rt, "dead", seen.dead == 0);
         }
     }
+}
+
+/// Whether the state behind a first LR is the one before it.
+fn comes_back(alloc: Global) -> Option<bool> {
+    let file = file_of(&RESERVING, 0, alloc).ok()?;
+    let image = image_of(file.as_slice(), 65536, alloc)?;
+    let Ok(mut machine) = CondensedMachine::new(&image, 2, [false; 32], alloc) else {
+        return None;
+    };
+    let Ok(begun) = machine.begin() else {
+        return None;
+    };
+    let reserved = step_of(&mut machine, begun.state, 0)?;
+    Some(reserved.state == begun.state)
+}
+
+#[test]
+fn a_reservation_that_no_store_conditional_uses_is_dropped(rt: HostRuntime) {
+    holds(&rt, "back", comes_back(rt.alloc()) == Some(true));
 }

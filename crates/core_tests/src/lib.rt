@@ -21,6 +21,10 @@ mod first_trace;
 #[cfg(test)]
 mod history_check_tests;
 #[cfg(test)]
+mod litmus_files_tests;
+#[cfg(test)]
+mod litmus_histograms_tests;
+#[cfg(test)]
 mod litmus_images_tests;
 #[cfg(test)]
 mod litmus_reading_tests;

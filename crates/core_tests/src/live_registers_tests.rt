@@ -15,6 +15,9 @@ static BRANCH: [u32; 3] = [0x0062_8463, 0x0010_0513, 0x0000_0073];
 /// `jalr x0,0(x1)`.
 static RETURN: [u32; 1] = [0x0000_8067];
 
+/// `lr.w x5,(x6)`, `addi x10,x0,1`, `sc.w x7,x5,(x6)`, `ecall`.
+static RESERVE: [u32; 4] = [0x1003_22af, 0x0010_0513, 0x1853_23af, 0x0000_0073];
+
 /// A program, a pc, a register, and whether it is live there.
 type LiveRow = (&'static [u32], u32, u8, bool);
 
@@ -35,16 +38,21 @@ fn rows() -> [LiveRow; 12] {
     ]
 }
 
-/// Whether a register of a program, whose segment has these flags, is live at a pc, where there is memory for the
-/// answer.
-fn is_live(words: &[u32], flags: u8, pc: u32, register: u8, alloc: Global) -> Option<bool> {
+/// The table of a program, whose segment has these flags, where there is memory for it.
+fn table_of(words: &[u32], flags: u8, alloc: Global) -> Option<LiveTable> {
     let mut file = file_of(words, 0, alloc).ok()?;
     if let Some(byte) = file.get_mut(76) {
         *byte = flags;
     }
     let image = image_of(file.as_slice(), 65536, alloc)?;
     let code = Code::new(&image, alloc).ok()?;
-    let table = LiveTable::of(&image, &code, alloc).ok()?;
+    LiveTable::of(&image, &code, alloc).ok()
+}
+
+/// Whether a register of a program, whose segment has these flags, is live at a pc, where there is memory for the
+/// answer.
+fn is_live(words: &[u32], flags: u8, pc: u32, register: u8, alloc: Global) -> Option<bool> {
+    let table = table_of(words, flags, alloc)?;
     if register < 32 {
         Some(table.is_live(pc, register))
     } else {
@@ -67,4 +75,34 @@ fn all_are_live_where_the_code_may_be_written(rt: HostRuntime) {
     holds(&rt, "unread", unread == Some(true));
     let behind = is_live(&EXIT, 7, 0x8000_000c, 10, rt.alloc());
     holds(&rt, "behind", behind == Some(true));
+}
+
+/// A program, a pc, and whether a reservation is kept there.
+type KeptRow = (&'static [u32], u32, bool);
+
+fn kept_rows() -> [KeptRow; 7] {
+    [
+        (&RESERVE, 0x8000_0000, false),
+        (&RESERVE, 0x8000_0004, true),
+        (&RESERVE, 0x8000_0008, true),
+        (&RESERVE, 0x8000_000c, false),
+        (&RESERVE, 0x8000_0010, false),
+        (&BRANCH, 0x8000_0000, false),
+        (&RETURN, 0x8000_0000, true),
+    ]
+}
+
+/// Whether a reservation of a program is kept at a pc, where there is memory for the answer.
+fn is_kept(words: &[u32], pc: u32, alloc: Global) -> Option<bool> {
+    let table = table_of(words, 5, alloc)?;
+    Some(table.is_kept(pc))
+}
+
+// LR makes a new one, SC uses it, and leaves none; a jump may lead to an SC anywhere.
+#[test]
+fn a_reservation_is_kept_where_a_store_conditional_may_use_it(rt: HostRuntime) {
+    for (words, pc, kept) in &kept_rows() {
+        let found = is_kept(words, *pc, rt.alloc());
+        holds(&rt, "kept", found == Some(*kept));
+    }
 }

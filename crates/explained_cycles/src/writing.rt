@@ -3,6 +3,7 @@
 use crate::naming::{
     instruction_of, relation_name, write_access, write_event_name, write_location,
 };
+use crate::verdict::write_verdict;
 use litmus_cycles::{Broken, Edge, Explanation, MemoryEvent, Relation, Shown};
 use litmus_tests::LitmusTest;
 use std::io;
@@ -15,52 +16,24 @@ pub fn write_explanation<W: Write>(
     explanation: &Explanation,
     out: &mut W,
 ) -> io::Result<()> {
-    write_counts(explanation, out)?;
+    write_verdict(explanation, out)?;
+    out.write_all(b"\n")?;
     match &explanation.shown {
         Shown::Nothing => Ok(()),
-        Shown::Cycle { events, edges } => {
+        Shown::Cycle { events, edges } | Shown::Incoherent { events, edges } => {
             write_cycle(edges.as_slice(), out)?;
             write_events(test, events.as_slice(), out)?;
             write_edges(test, events.as_slice(), edges.as_slice(), out)
         }
         Shown::Atomicity { events, broken } => {
             write_broken(*broken, out)?;
+            out.write_all(b"\n")?;
             write_events(test, events.as_slice(), out)
         }
         Shown::Execution { events, order } => {
             write_order(order.as_slice(), out)?;
             write_events(test, events.as_slice(), out)
         }
-    }
-}
-
-fn write_counts<W: Write>(explanation: &Explanation, out: &mut W) -> io::Result<()> {
-    writeln!(out, "candidates {}", explanation.candidates)?;
-    writeln!(out, "looked at {}", explanation.looked_at)?;
-    if !explanation.is_whole {
-        out.write_all(b"not all were looked at\n")?;
-    }
-    writeln!(out, "{}", verdict(explanation))?;
-    if is_mixed(explanation) {
-        writeln!(out, "with a cycle {}", explanation.cyclic)?;
-        writeln!(out, "excluded by atomicity {}", explanation.not_atomic)?;
-    }
-    Ok(())
-}
-
-/// Whether some candidates have a cycle, and others are excluded by atomicity.
-fn is_mixed(explanation: &Explanation) -> bool {
-    explanation.cyclic > 0 && explanation.not_atomic > 0
-}
-
-/// What is found, in a few words.
-pub(crate) fn verdict(explanation: &Explanation) -> &'static str {
-    match explanation.shown {
-        Shown::Nothing => "no execution with such numbers was found",
-        Shown::Execution { .. } => "one has no cycle",
-        Shown::Atomicity { .. } => "each is excluded by atomicity",
-        Shown::Cycle { .. } if explanation.not_atomic == 0 => "each has a cycle",
-        Shown::Cycle { .. } => "each has a cycle or is excluded by atomicity",
     }
 }
 
@@ -130,13 +103,18 @@ fn write_edge_location<W: Write>(
     }
 }
 
-fn write_broken<W: Write>(broken: Broken, out: &mut W) -> io::Result<()> {
+/// Writes what lies between a load and its write; of an AMO, between what it reads and what it writes.
+pub(crate) fn write_broken<W: Write>(broken: Broken, out: &mut W) -> io::Result<()> {
     write_event_name(broken.between, out)?;
     out.write_all(b" lies between ")?;
+    if broken.load == broken.store {
+        out.write_all(b"what ")?;
+        write_event_name(broken.store, out)?;
+        return out.write_all(b" reads and what it writes");
+    }
     write_event_name(broken.load, out)?;
     out.write_all(b" and ")?;
-    write_event_name(broken.store, out)?;
-    out.write_all(b"\n")
+    write_event_name(broken.store, out)
 }
 
 fn write_order<W: Write>(order: &[usize], out: &mut W) -> io::Result<()> {

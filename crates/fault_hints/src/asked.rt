@@ -210,14 +210,19 @@ pub(crate) fn add_absent_word(
     hint.add(Part::Expected, expected.as_bytes())
 }
 
-/// Adds that there is no outcome of this number.
+/// Adds that there is no outcome of this number, or no state.
 pub(crate) fn add_absent_outcome(
     number: u32,
+    fault: &LineFault<'_, '_>,
     hint: &mut Hint,
     alloc: Global,
 ) -> Result<(), AllocError> {
     let word = format!(in alloc; "--outcome {number}")?;
     hint.add(Part::Word, word.as_bytes())?;
+    if let Command::Litmus(_) = fault.line.command {
+        hint.add(Part::Cause, b"there are fewer states")?;
+        return hint.add(Part::Expected, b"the number of a state by its line, from 1");
+    }
     hint.add(Part::Cause, b"there are fewer outcomes")?;
     hint.add(
         Part::Expected,

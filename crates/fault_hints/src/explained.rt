@@ -31,13 +31,21 @@ pub(crate) fn add_config_fault(
     add_explain(fault, hint, alloc)
 }
 
+/// Whether a command makes runs by threads: a litmus test whose configuration doesn't fit it does.
+fn is_run(command: &Command<'_>) -> bool {
+    matches!(
+        command,
+        Command::OfProgram(ProgramCommand::Run(_)) | Command::Litmus(_)
+    )
+}
+
 /// Adds why a configuration doesn't fit its command.
 fn add_unfit_config(
     fault: &LineFault<'_, '_>,
     hint: &mut Hint,
     alloc: Global,
 ) -> Result<(), AllocError> {
-    if let Command::OfProgram(ProgramCommand::Run(_)) = fault.line.command {
+    if is_run(&fault.line.command) {
         add_config(fault, hint, alloc)?;
         hint.add(Part::Cause, b"a run needs an actor of each role")?;
         hint.add(

@@ -4,7 +4,7 @@ use crate::file_fault::{Doing, add_cause};
 use crate::line_fault::LineFault;
 use command_parts::Unread;
 use hints::{Hint, Part};
-use sim_inputs::{Command, Line, ProgramCommand, is_standard_input};
+use sim_inputs::{Command, Line, OutcomesCommand, ProgramCommand, is_standard_input};
 use std::alloc::{AllocError, Global};
 
 /// What the configuration is.
@@ -32,17 +32,24 @@ fn second_role(line: &Line<'_>) -> &'static str {
 fn written_role(line: &Line<'_>) -> &'static str {
     match line.command {
         Command::OfProgram(ProgramCommand::Chart(_)) => "the chart",
-        Command::OfProgram(ProgramCommand::Outcomes(asked)) if asked.witness.is_some() => {
-            "the order"
-        }
-        Command::OfProgram(ProgramCommand::Outcomes(asked)) if asked.story.is_some() => "the story",
-        Command::OfProgram(ProgramCommand::Outcomes(asked)) if asked.script.is_some() => {
-            "the script"
-        }
-        Command::OfProgram(ProgramCommand::Outcomes(_) | ProgramCommand::Plain(_)) => "the picture",
+        Command::OfProgram(ProgramCommand::Outcomes(asked)) => order_role(&asked),
+        Command::OfProgram(ProgramCommand::Plain(_)) => "the picture",
         Command::Litmus(asked) if asked.image.is_some() => "the image",
-        Command::Litmus(_) => "the picture",
+        Command::Litmus(asked) => order_role(&asked.order_asked()),
         _ => "the trace",
+    }
+}
+
+/// What is written of an order; where none is, it is a picture of something else.
+fn order_role(asked: &OutcomesCommand<'_>) -> &'static str {
+    if asked.witness.is_some() {
+        "the order"
+    } else if asked.script.is_some() {
+        "the script"
+    } else if asked.story.is_some() {
+        "the story"
+    } else {
+        "the picture"
     }
 }
 

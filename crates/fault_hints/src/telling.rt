@@ -91,7 +91,7 @@ fn add_asked_fault(
             b"the list and the condition name more than 64 registers and words",
         ),
         Refused::NoWord(bytes) => add_absent_word(bytes, fault, hint, alloc),
-        Refused::NoOutcome(number) => add_absent_outcome(number, hint, alloc),
+        Refused::NoOutcome(number) => add_absent_outcome(number, fault, hint, alloc),
         Refused::NotStuck => hint.add(
             Part::Cause,
             b"some order leads on to an end from wherever an order leads",
@@ -103,7 +103,7 @@ fn add_asked_fault(
         Refused::Litmus(place, why) => add_litmus(place, why, fault, hint, alloc),
         Refused::NothingToDraw => hint.add(
             Part::Cause,
-            b"the condition holds of a state, or no execution of it was found",
+            b"no candidate of such a state is there to draw, or the condition holds of each state",
         ),
         _ => Ok(()),
     }

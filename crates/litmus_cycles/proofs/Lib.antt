@@ -1,0 +1,6 @@
+mod Counting
+mod Keeping
+mod Opening
+mod Products
+mod Reasons
+mod Wholes

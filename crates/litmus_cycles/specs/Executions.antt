@@ -78,6 +78,14 @@ is_closed (edge ∷ edges) = leads edge.to edges edge.from
 abbrev pub is_cycle : List MemoryEvent → List Edge → Bool
 is_cycle events edges = list_all (is_edge events) edges && is_closed edges
 
+-- Edges between accesses to one location.
+abbrev pub stays : List MemoryEvent → Edge → Bool
+stays events edge = option_map_or (λ a. option_map_or (λ b. a.location == b.location) (slice_get events edge.to) false)
+    (slice_get events edge.from) false
+
+abbrev pub stays_at_one_location : List MemoryEvent → List Edge → Bool
+stays_at_one_location events edges = list_all (stays events) edges
+
 -- What an event writes to a location.
 abbrev pub written_at : MemoryEvent → ℕ → Option ℕ
 written_at event location = if event.location == location then event.writes else None
@@ -135,17 +143,47 @@ is_made test event =
     option_map_or (λ thread. option_map_or (λ step. does_as step event) (slice_get thread.steps.items event.step) false)
     (slice_get test.threads.items event.hart) false
 
+-- The event whose read goes with an access: itself where it reads, the load-reserved of a store-conditional.
+abbrev pub load_of : List MemoryEvent → MemoryEvent → Option MemoryEvent
+load_of events event =
+    if is_read event then Some event else option_and_then (λ index. slice_get events index) event.reserved_by
+
+-- That event has read something before this place in coherence order.
+abbrev pub reads_older : List MemoryEvent → MemoryEvent → ℕ → Bool
+reads_older events event rank =
+    option_map_or (λ load. nat_lt (source_rank events load) rank) (load_of events event) false
+
+-- Another hart's write to the location of an event; its source is one.
+abbrev pub is_others_write : MemoryEvent → MemoryEvent → Bool
+is_others_write event write = is_write write && write.location == event.location && not (write.hart == event.hart)
+
+abbrev pub is_broken_by_other : List MemoryEvent → MemoryEvent → Bool
+is_broken_by_other events event = option_map_or (λ write. is_others_write event write)
+    (option_and_then (λ index. slice_get events index) event.source) false
+
+-- A store-conditional that fails was broken by such a write, behind what its load-reserved has read.
+abbrev pub is_failing : List MemoryEvent → MemoryEvent → Bool
+is_failing events event =
+    is_read event || is_write event
+    || (is_broken_by_other events event && reads_older events event (source_rank events event))
+
 -- A candidate: its events in program order, hart by hart, each made by a step; each read reads what its source has
--- written, or what is there at the start; each write has a place of its own in the coherence order of its location.
+-- written, or what is there at the start; each write has a place of its own in the coherence order of its location;
+-- each store-conditional that fails was broken.
 abbrev pub is_candidate : LitmusTest → List MemoryEvent → Bool
 is_candidate test events =
     all_pairs is_before events && list_all (is_made test) events && list_all (is_sourced test events) events
-    && list_all is_ranked events && all_pairs are_apart events
+    && list_all is_ranked events && all_pairs are_apart events && list_all (is_failing events) events
 
--- The write stands between what the load-reserved has read and what the store-conditional writes, which goes with it.
+-- An AMO is its own load, and a store-conditional goes with its load-reserved.
+abbrev pub goes_with : MemoryEvent → Broken → Bool
+goes_with store broken =
+    if is_read store then broken.load == broken.store else has_number broken.load store.reserved_by
+
+-- The write stands between what the load has read and what the AMO, or the store-conditional that goes with it, writes.
 abbrev pub is_between : List MemoryEvent → Broken → MemoryEvent → MemoryEvent → MemoryEvent → Bool
 is_between events broken load write store =
-    is_write store && has_number broken.load store.reserved_by
+    is_write store && goes_with store broken
     && is_write write && write.location == store.location && not (write.hart == store.hart)
     && nat_lt (source_rank events load) write.rank && nat_lt write.rank store.rank
 

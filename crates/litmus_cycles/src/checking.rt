@@ -7,8 +7,10 @@ ghost use Rattle.litmus_cycles.specs.Executions.{leads, is_closed, is_cycle, is_
 ghost use Rattle.litmus_cycles.specs.Executions.{has_number, given_by, is_sourced, is_related, is_ranked};
 ghost use Rattle.litmus_cycles.specs.Executions.{is_before, are_apart};
 ghost use Rattle.litmus_cycles.specs.Executions.{all_pairs, accesses_as, does_as, is_made, is_candidate};
-ghost use Rattle.litmus_cycles.specs.Executions.{is_between, is_broken, is_forward, is_order};
+ghost use Rattle.litmus_cycles.specs.Executions.{goes_with, is_between, is_broken, is_forward, is_order};
+ghost use Rattle.litmus_cycles.specs.Executions.{is_failing, stays, stays_at_one_location};
 
+use crate::coherence::{is_broken_by_other, reads_older};
 use crate::event::{Edge, MemoryEvent};
 use crate::explanation::Broken;
 use crate::relating::{is_edge, is_related, source_rank};
@@ -41,6 +43,25 @@ fn are_edges(events: &[MemoryEvent], edges: &[Edge]) -> bool
     edges.iter().all(|edge| is_edge(events, edge))
 }
 
+fn stays(events: &[MemoryEvent], edge: &Edge) -> bool
+    ensures { result ≡ stays events.now edge.now }
+{
+    let Some(a) = events.get(edge.from) else {
+        return false
+    };
+    let Some(b) = events.get(edge.to) else {
+        return false
+    };
+    a.location == b.location
+}
+
+/// Whether all these edges are between accesses to one location.
+pub(crate) fn stays_at_one_location(events: &[MemoryEvent], edges: &[Edge]) -> bool
+    ensures { result ≡ stays_at_one_location events.now edges.now }
+{
+    edges.iter().all(|edge| stays(events, edge))
+}
+
 /// Whether these edges lead from an event back to it.
 pub(crate) fn is_cycle(events: &[MemoryEvent], edges: &[Edge]) -> bool
     ensures { result ≡ is_cycle events.now edges.now }
@@ -48,7 +69,7 @@ pub(crate) fn is_cycle(events: &[MemoryEvent], edges: &[Edge]) -> bool
     are_edges(events, edges) && is_closed(edges)
 }
 
-fn written_at(event: &MemoryEvent, location: usize) -> Option<u32>
+pub(crate) fn written_at(event: &MemoryEvent, location: usize) -> Option<u32>
     ensures { result ≡ written_at event.now location }
 {
     if event.location == location {
@@ -67,7 +88,7 @@ fn given_by(test: &LitmusTest, events: &[MemoryEvent], event: &MemoryEvent) -> O
     }
 }
 
-fn has_number(number: u32, given: Option<u32>) -> bool
+pub(crate) fn has_number(number: u32, given: Option<u32>) -> bool
     ensures { result ≡ has_number number given }
 {
     match given {
@@ -185,6 +206,21 @@ fn are_made(test: &LitmusTest, events: &[MemoryEvent]) -> bool
     events.iter().all(|event| is_made(test, event))
 }
 
+/// Whether another hart's write, behind what its load-reserved has read, broke a store-conditional that fails.
+fn is_failing(events: &[MemoryEvent], event: &MemoryEvent) -> bool
+    ensures { result ≡ is_failing events.now event.now }
+{
+    let is_older = reads_older(events, event, source_rank(events, event));
+    let is_others = is_broken_by_other(events, event);
+    event.reads.is_some() || event.writes.is_some() || (is_others && is_older)
+}
+
+fn are_failing(events: &[MemoryEvent]) -> bool
+    ensures { result ≡ list_all (is_failing events.now) events.now }
+{
+    events.iter().all(|event| is_failing(events, event))
+}
+
 /// Whether these events are a candidate.
 pub(crate) fn is_candidate(test: &LitmusTest, events: &[MemoryEvent]) -> bool
     ensures { result ≡ is_candidate test.now events.now }
@@ -194,13 +230,17 @@ pub(crate) fn is_candidate(test: &LitmusTest, events: &[MemoryEvent]) -> bool
         && are_sourced(test, events)
         && are_ranked(events)
         && are_all_apart(events)
+        && are_failing(events)
 }
 
-fn goes_with(store: &MemoryEvent, load: usize) -> bool
-    ensures { result ≡ has_number load store.now.reserved_by }
+fn goes_with(store: &MemoryEvent, broken: Broken) -> bool
+    ensures { result ≡ goes_with store.now broken }
 {
+    if store.reads.is_some() {
+        return broken.load == broken.store;
+    }
     match store.reserved_by {
-        Some(index) => index == load,
+        Some(index) => index == broken.load,
         None => false,
     }
 }
@@ -216,7 +256,7 @@ fn is_between(
 {
     let rank = source_rank(events, load);
     store.writes.is_some()
-        && goes_with(store, broken.load)
+        && goes_with(store, broken)
         && write.writes.is_some()
         && write.location == store.location
         && write.hart != store.hart
@@ -224,8 +264,8 @@ fn is_between(
         && write.rank < store.rank
 }
 
-/// Whether another hart's write stands between what a load-reserved has read and the write of its
-/// store-conditional.
+/// Whether another hart's write stands between what an AMO, or a load-reserved, has read and what the AMO, or its
+/// store-conditional, writes.
 pub(crate) fn is_broken(events: &[MemoryEvent], broken: Broken) -> bool
     ensures { result ≡ is_broken events.now broken }
 {

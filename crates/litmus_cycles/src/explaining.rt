@@ -1,186 +1,128 @@
-//! The search for an execution that ends as the condition says.
+//! Why no execution of a test ends as its condition says.
 
-ghost use Rattle.std.specs.Prelude.{◌≡◌, ◌⊎◌, IfOk};
+ghost use Rattle.std.specs.Prelude.{◌≡◌, ◌==◌, ◌<◌, ◌&&◌, ◌||◌, true, false, IfOk};
 ghost use Rattle.litmus_cycles.specs.Explained.{IsShown};
+ghost use Rattle.litmus_cycles.specs.Searched.{AreSearched, IsFound};
+ghost use Rattle.litmus_cycles.specs.Looked.{AreLookedAt, is_incoherent, is_atomicity};
+ghost use Rattle.litmus_cycles.specs.declared.demand.Demand.TheVariants.{Whole};
 
-use crate::candidate::{Candidate, next_candidate};
-use crate::checking::{is_broken, is_candidate, is_cycle, is_order};
-use crate::cycles::{broken, order_of, shortest_cycle};
-use crate::event::{Edge, MemoryEvent};
-use crate::explanation::{Broken, Explanation, Shown};
-use crate::related::Related;
-use litmus_runs::{Choices, all_runs};
+use crate::demand::Demand;
+use crate::explanation::{Explanation, Shown};
+use crate::findings::Findings;
+use crate::searching::{search, search_by};
+use litmus_runs::{AllRuns, all_runs};
 use litmus_tests::LitmusTest;
 use std::alloc::{AllocError, Global};
 
-/// How many candidates are looked at.
-const MOST_CANDIDATES: u32 = 1_000_000;
-
-/// How many of them that meet the condition are explained.
-const MOST_MEETING: u32 = 50_000;
-
-/// What was counted on the way.
-#[derive(Clone, Copy, Drop)]
-struct Counts {
-    candidates: u32,
-    not_atomic: u32,
-    cyclic: u32,
-    looked_at: u32,
-    is_whole: bool,
-}
-
-/// Looks at the candidate executions of a test whose final state meets its condition, and shows of them the
-/// one with the shortest cycle; one without a cycle where there is one.
+/// Looks at the candidate executions of a test that end as its condition says, and shows one: of those that have the
+/// numbers, are coherent and whole the one with the least cycle; where there are none, one that is excluded by
+/// atomicity alone, else by coherence.
 ///
 /// A candidate gives each hart a run of at most 200 steps and all of them together at most 32 accesses, each read
 /// a write of its number, and the writes of each location an order. What doesn't fit, what accesses anything else
-/// than the word of a location, and what comes behind a million candidates, or behind 50,000 that meet the
-/// condition, isn't looked at, which `is_whole` tells. Errors: want of memory.
+/// than the word of a location, and what comes behind a million choices that something may come of, or behind 10,000
+/// candidates that fit, isn't looked at, which `is_whole` tells. Errors: want of memory.
 pub fn explain_forbidden(test: &LitmusTest, alloc: Global) -> Result<Explanation, AllocError>
     ensures { IfOk result (λ explanation. IsShown test.now explanation.shown) }
 {
     let runs = all_runs(test, alloc)?;
-    let mut choices = Choices::new(alloc);
-    let mut counts = first_counts(runs.is_whole);
-    let mut shown = Shown::Nothing;
-    for _ in 0..MOST_CANDIDATES {
-        let found = next_candidate(test, &runs, &mut choices, alloc)?;
-        counts = looked(counts, &found);
-        let judged = judged(test, found, alloc)?;
-        counts = counted(counts, &judged);
-        shown = better(shown, judged);
-        if !choices.advance()? {
-            return Ok(told(counts, shown));
-        }
-        if counts.candidates >= MOST_MEETING {
-            break;
-        }
-    }
-    counts.is_whole = false;
-    Ok(told(counts, shown))
+    explain_ways(test, &runs, alloc)
 }
 
-fn first_counts(is_whole: bool) -> Counts {
-    Counts {
-        candidates: 0,
-        not_atomic: 0,
-        cyclic: 0,
-        looked_at: 0,
-        is_whole,
+/// So it does with these ways of its harts. Where it is whole and gave up nothing, none of their candidates is of a
+/// kind that is said not to be there.
+pub fn explain_ways(
+    test: &LitmusTest,
+    runs: &AllRuns,
+    alloc: Global,
+) -> Result<Explanation, AllocError>
+    ensures shown { IfOk result (λ explanation. IsShown test.now explanation.shown) }
+    ensures all { IfOk result (AreLookedAt test.now runs.now) }
+{
+    let findings = search(test, runs, Demand::Whole, alloc)?;
+    if has_none(&findings) {
+        return excluded(test, runs, findings, alloc);
     }
+    Ok(told(findings))
 }
 
-fn looked(counts: Counts, found: &Candidate) -> Counts {
-    let (is_met, is_cut) = match found {
-        Candidate::Meets(_) => (1, false),
-        Candidate::Fails => (0, false),
-        Candidate::TooLong => (0, true),
-    };
-    Counts {
-        candidates: counts.candidates.saturating_add(is_met),
-        looked_at: counts.looked_at.saturating_add(1),
-        is_whole: counts.is_whole && !is_cut,
-        ..counts
-    }
+/// Whether all were looked at, and none was found.
+fn has_none(findings: &Findings) -> bool
+    ensures none { result ≡ true → findings.now.fitting ≡ 0 }
+    ensures some { result ≡ false → findings.now.is_whole ≡ true → 0 < findings.now.fitting }
+{
+    findings.is_whole && findings.fitting == 0
 }
 
-fn counted(counts: Counts, judged: &Shown) -> Counts {
-    match judged {
-        Shown::Nothing | Shown::Execution { .. } => counts,
-        Shown::Cycle { .. } => Counts {
-            cyclic: counts.cyclic.saturating_add(1),
-            ..counts
-        },
-        Shown::Atomicity { .. } => Counts {
-            not_atomic: counts.not_atomic.saturating_add(1),
-            ..counts
-        },
+/// Why none fits: atomicity where there is a coherent one, coherence where there is one with the numbers.
+fn excluded(
+    test: &LitmusTest,
+    runs: &AllRuns,
+    none: Findings,
+    alloc: Global,
+) -> Result<Explanation, AllocError>
+    requires searched { AreSearched test.now runs.now Whole none }
+    requires found { IsFound test.now none }
+    requires fits { none.fitting ≡ 0 }
+    ensures shown { IfOk result (λ explanation. IsShown test.now explanation.shown) }
+    ensures all { IfOk result (AreLookedAt test.now runs.now) }
+{
+    let coherent = search(test, runs, Demand::Coherent, alloc)?;
+    if is_atomicity(&coherent.shown) {
+        return Ok(because(&none, &none, coherent.shown));
     }
+    let writes = search_by(test, runs, Demand::Writes, true, alloc)?;
+    if is_incoherent(&writes.shown) {
+        return Ok(because(&none, &coherent, writes.shown));
+    }
+    let numbers = search(test, runs, Demand::Numbers, alloc)?;
+    if is_incoherent(&numbers.shown) {
+        return Ok(because(&none, &coherent, numbers.shown));
+    }
+    Ok(because(&none, &numbers, Shown::Nothing))
 }
 
-fn told(counts: Counts, shown: Shown) -> Explanation
-    ensures { result.shown ≡ shown }
+/// That is shown, where none fits, and another search has found none either.
+fn because(none: &Findings, others: &Findings, shown: Shown) -> Explanation
+    ensures shown { result.shown ≡ shown }
+    ensures candidates { result.candidates ≡ none.now.candidates }
+    ensures fitting { result.fitting ≡ 0 }
+    ensures gives_up { result.gives_up ≡ (none.now.gives_up || others.now.gives_up) }
+    ensures whole { result.is_whole ≡ (none.now.is_whole && (others.now.is_whole && others.now.fitting == 0)) }
 {
     Explanation {
-        candidates: counts.candidates,
-        not_atomic: counts.not_atomic,
-        cyclic: counts.cyclic,
-        looked_at: counts.looked_at,
-        is_whole: counts.is_whole,
+        candidates: none.candidates,
+        fitting: 0,
+        is_whole: none.is_whole && (others.is_whole && others.fitting == 0),
+        gives_up: none.gives_up || others.gives_up,
         shown,
     }
 }
 
-/// What is to be shown of a candidate.
-fn judged(test: &LitmusTest, found: Candidate, alloc: Global) -> Result<Shown, AllocError>
-    ensures { IfOk result (IsShown test.now) }
+fn is_incoherent(shown: &Shown) -> bool
+    ensures { result ≡ is_incoherent shown.now }
 {
-    let events = match found {
-        Candidate::Meets(events) => events,
-        Candidate::Fails | Candidate::TooLong => return Ok(Shown::Nothing),
-    };
-    if let Some(broken) = broken(events.as_slice()) {
-        return Ok(atomicity(test, events, broken));
-    }
-    let related = Related::of(events.as_slice(), alloc)?;
-    let order = order_of(&related, alloc)?;
-    if order.len() == events.len() {
-        return Ok(execution(test, events, order));
-    }
-    let edges = shortest_cycle(events.as_slice(), &related, alloc)?;
-    Ok(cycle(test, events, edges))
+    matches!(shown, Shown::Incoherent { .. })
 }
 
-fn cycle(test: &LitmusTest, events: Vec<MemoryEvent>, edges: Vec<Edge>) -> Shown
-    ensures { IsShown test.now result }
+fn is_atomicity(shown: &Shown) -> bool
+    ensures { result ≡ is_atomicity shown.now }
 {
-    let is_one = is_cycle(events.as_slice(), edges.as_slice());
-    if is_one && is_candidate(test, events.as_slice()) {
-        return Shown::Cycle { events, edges };
-    }
-    Shown::Nothing
+    matches!(shown, Shown::Atomicity { .. })
 }
 
-fn atomicity(test: &LitmusTest, events: Vec<MemoryEvent>, broken: Broken) -> Shown
-    ensures { IsShown test.now result }
+fn told(findings: Findings) -> Explanation
+    ensures shown { result.shown ≡ findings.shown }
+    ensures candidates { result.candidates ≡ findings.candidates }
+    ensures fitting { result.fitting ≡ findings.fitting }
+    ensures whole { result.is_whole ≡ findings.is_whole }
+    ensures gives_up { result.gives_up ≡ findings.gives_up }
 {
-    let is_one = is_broken(events.as_slice(), broken);
-    if is_one && is_candidate(test, events.as_slice()) {
-        return Shown::Atomicity { events, broken };
-    }
-    Shown::Nothing
-}
-
-fn execution(test: &LitmusTest, events: Vec<MemoryEvent>, order: Vec<usize>) -> Shown
-    ensures { IsShown test.now result }
-{
-    let is_one = is_order(events.as_slice(), order.as_slice());
-    if is_one && is_candidate(test, events.as_slice()) {
-        return Shown::Execution { events, order };
-    }
-    Shown::Nothing
-}
-
-/// The one that is shown rather: one without a cycle, else the shorter cycle, else what isn't atomic.
-fn better(shown: Shown, judged: Shown) -> Shown
-    ensures { (result ≡ shown) ⊎ (result ≡ judged) }
-{
-    if is_better(&judged, &shown) {
-        return judged;
-    }
-    shown
-}
-
-fn is_better(new: &Shown, old: &Shown) -> bool {
-    match (new, old) {
-        (_, Shown::Execution { .. }) => false,
-        (Shown::Execution { .. }, _) => true,
-        (Shown::Cycle { edges, .. }, Shown::Cycle { edges: others, .. }) => edges.len()
-            < others.len(),
-        (Shown::Cycle { .. }, _) => true,
-        (_, Shown::Cycle { .. }) => false,
-        (Shown::Atomicity { .. }, Shown::Nothing) => true,
-        (Shown::Atomicity { .. }, Shown::Atomicity { .. }) => false,
-        (Shown::Nothing, _) => false,
+    Explanation {
+        candidates: findings.candidates,
+        fitting: findings.fitting,
+        is_whole: findings.is_whole,
+        gives_up: findings.gives_up,
+        shown: findings.shown,
     }
 }

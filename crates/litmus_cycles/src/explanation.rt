@@ -2,8 +2,9 @@
 
 use crate::event::{Edge, MemoryEvent};
 
-/// A store-conditional that can't have written: between what its load-reserved read and its write, another
-/// hart's write to the location lies in coherence order. All by their indices among the events.
+/// An AMO or a store-conditional that can't have written: between what its load has read and its write, another
+/// hart's write to the location lies in coherence order. All by their indices among the events; an AMO is its own
+/// load.
 #[derive(Clone, Copy, PartialEq, Eq, Drop)]
 pub struct Broken {
     pub load: usize,
@@ -14,14 +15,20 @@ pub struct Broken {
 /// The execution that is shown.
 #[derive(Drop)]
 pub enum Shown {
-    /// No candidate ends in such a state.
+    /// No candidate has such numbers.
     Nothing,
-    /// A candidate with a cycle: each edge ends where the next begins, and the last where the first begins.
+    /// A candidate that fits, with a cycle: each edge ends where the next begins, and the last where the first
+    /// begins.
     Cycle {
         events: Vec<MemoryEvent>,
         edges: Vec<Edge>,
     },
-    /// A candidate whose only fault is that a store-conditional writes without its reservation.
+    /// A candidate that isn't coherent: a cycle of accesses to one location.
+    Incoherent {
+        events: Vec<MemoryEvent>,
+        edges: Vec<Edge>,
+    },
+    /// A coherent candidate whose AMOs and store-conditionals aren't whole.
     Atomicity {
         events: Vec<MemoryEvent>,
         broken: Broken,
@@ -37,15 +44,15 @@ pub enum Shown {
 /// Why no execution of a litmus test ends in a state of which its condition holds.
 #[derive(Drop)]
 pub struct Explanation {
-    /// How many candidates end in such a state.
-    pub candidates: u32,
-    /// How many of them are excluded by atomicity: a store-conditional writes without its reservation.
-    pub not_atomic: u32,
-    /// How many of them have a cycle, and are atomic.
-    pub cyclic: u32,
-    /// How many candidates were looked at in all, those among them that were dropped before they were whole.
-    pub looked_at: u32,
-    /// Whether all were.
+    /// How many candidates there are, by ways of the harts whose registers don't rule the condition out: each
+    /// choice of what each read reads and in which order each location is written. The greatest number where there
+    /// are more.
+    pub candidates: u64,
+    /// How many of them fit: they have the numbers, are coherent and whole, and end in such a state.
+    pub fitting: u64,
+    /// Whether all were looked at.
     pub is_whole: bool,
+    /// Whether a choice was given up where nothing that fits could come of it, and what comes of it not gone through.
+    pub gives_up: bool,
     pub shown: Shown,
 }

@@ -3,21 +3,31 @@
 //! parallel programs that share memory", 1988; Alglave, Maranget and Tautschnig, "Herding Cats", 2014: an execution
 //! is sequentially consistent where these relations together are acyclic).
 //!
-//! Read in this order: `event` (accesses to memory and how they are related), `relating`, `checking` (what a
-//! cycle and a candidate is, as tests), `explanation` (what is told); `candidate` (an execution that each hart's way
-//! of `litmus_runs` and other choices make), `ending`, `related`, `cycles`, `explaining` (the search). The definitions
-//! are `specs/Executions` and `specs/Explained`; how it is told and drawn is `explained_cycles`.
+//! Read in this order: `event` (accesses to memory and how they are related), `relating`, `coherence`, `checking` (what
+//! a cycle and a candidate is, as tests), `explanation` (what is told); `demand`, `open` (what is to be decided of a
+//! candidate), `choosing`, `ending`, `deciding`, `related`, `cycles`, `showing`, `findings`, `possible`, `searching`,
+//! `explaining` (the search).
+//! The definitions are `specs/Executions`, `specs/OneOrder`, `specs/Choices`, `specs/Endings` and `specs/Explained`; how it is told and drawn is
+//! `explained_cycles`.
 #![tactic(auto)]
 
-mod candidate;
 mod checking;
+mod choosing;
+mod coherence;
 mod cycles;
+mod deciding;
+mod demand;
 mod ending;
 pub mod event;
 pub mod explaining;
 pub mod explanation;
+mod findings;
+mod open;
+mod possible;
 mod related;
 mod relating;
+mod searching;
+mod showing;
 
 pub use event::{Edge, MemoryEvent, Relation};
 pub use explaining::explain_forbidden;

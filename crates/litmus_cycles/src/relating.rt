@@ -104,11 +104,16 @@ pub(crate) fn is_related(events: &[MemoryEvent], from: usize, to: usize) -> bool
         || is_edge_of(events, from, Relation::Breaks, to)
 }
 
-/// How the one is related to the other, if it is.
+/// Whether the one is related to the other otherwise than by program order.
+pub(crate) fn is_related_across(events: &[MemoryEvent], from: usize, to: usize) -> bool {
+    is_edge_of(events, from, Relation::ReadsFrom, to)
+        || is_edge_of(events, from, Relation::Coherence, to)
+        || is_edge_of(events, from, Relation::FromRead, to)
+        || is_edge_of(events, from, Relation::Breaks, to)
+}
+
+/// How the one is related to the other, if it is: otherwise than by program order, where it is so in several ways.
 pub(crate) fn relation_of(events: &[MemoryEvent], from: usize, to: usize) -> Option<Relation> {
-    if is_edge_of(events, from, Relation::ProgramOrder, to) {
-        return Some(Relation::ProgramOrder);
-    }
     if is_edge_of(events, from, Relation::ReadsFrom, to) {
         return Some(Relation::ReadsFrom);
     }
@@ -118,5 +123,8 @@ pub(crate) fn relation_of(events: &[MemoryEvent], from: usize, to: usize) -> Opt
     if is_edge_of(events, from, Relation::FromRead, to) {
         return Some(Relation::FromRead);
     }
-    is_edge_of(events, from, Relation::Breaks, to).then_some(Relation::Breaks)
+    if is_edge_of(events, from, Relation::Breaks, to) {
+        return Some(Relation::Breaks);
+    }
+    is_edge_of(events, from, Relation::ProgramOrder, to).then_some(Relation::ProgramOrder)
 }

@@ -1,16 +1,15 @@
 //! What an instruction finds as its access reaches memory: a number that is there, and whether its reservation holds.
 
-ghost use Rattle.std.specs.Prelude.{◌≡◌, true, false, Some, None, IfOk, IfSome};
-ghost use Rattle.smt_model.specs.Reservations.{holds_word};
-ghost use Rattle.litmus_runs.specs.Steps.{Finds, IsFoundConditional, IsWordAt};
+ghost use Rattle.std.specs.Prelude.{◌≡◌, [], ◌∷◌, true, false, Some, None, All, IfOk, IfSome};
+ghost use Rattle.litmus_runs.specs.Steps.{IsFoundConditional, IsWordAt};
+ghost use Rattle.litmus_runs.specs.Ways.{MayBeFound, IsOneOf};
 
-use crate::choices::Choices;
 use crate::known::Known;
 use crate::reservation::holds_word;
 use elf_image::RAM_START;
 use rv_execute::access_size;
 use rv_instr::{Kind, Op};
-use std::alloc::AllocError;
+use std::alloc::{AllocError, Global};
 
 /// What an instruction finds: the number that its access reads, whether the hart's reservation holds on its word, and
 /// the location of the access that it makes.
@@ -21,34 +20,38 @@ pub(crate) struct Found {
     pub location: Option<usize>,
 }
 
-/// What an instruction finds: a number that its location may have, and of a store-conditional whose word is reserved,
-/// whether it writes, as is chosen. None where it accesses something else than the word of a location, or there is no
-/// such number.
-pub(crate) fn find(
+/// All that an instruction may find: each number that its location may have, and of a store-conditional whose word is
+/// reserved, that it writes and that it fails. None where it accesses something else than the word of a location.
+pub(crate) fn all_found(
     op: Op,
     address: u32,
     reserved: Option<u32>,
     known: &Known,
-    choices: &mut Choices,
-) -> Result<Option<Found>, AllocError>
-    ensures { IfOk result (λ found. IfSome found (Finds op address reserved)) }
+    alloc: Global,
+) -> Result<Option<Vec<Found>>, AllocError>
+    ensures { IfOk result (λ found. IfSome found (λ all.
+        All (MayBeFound known.now.held.items op address reserved) all.items)) }
 {
     if !op.kind().touches_memory() {
-        return Ok(Some(nothing_found()));
+        return only(nothing_found(), alloc);
     }
     let Some(location) = word_at(op, address) else {
         return Ok(None);
     };
     match op.kind() {
-        Kind::Conditional => Ok(Some(conditional(address, location, reserved, choices)?)),
-        Kind::Computing | Kind::Storing => Ok(Some(found_at(location, 0))),
-        Kind::Loading | Kind::Reserving | Kind::Atomic => {
-            match pick(location, known, choices)? {
-                Some(number) => Ok(Some(found_at(location, number))),
-                None => Ok(None),
-            }
-        }
+        Kind::Conditional => conditional(address, location, reserved, alloc),
+        Kind::Computing | Kind::Storing => only(found_at(location, 0), alloc),
+        Kind::Loading | Kind::Reserving | Kind::Atomic => numbers(location, known, alloc),
     }
+}
+
+/// One thing alone.
+fn only(found: Found, alloc: Global) -> Result<Option<Vec<Found>>, AllocError>
+    ensures { IfOk result (λ some. IfSome some (λ all. all.items ≡ found ∷ [])) }
+{
+    let mut all = Vec::new(alloc);
+    all.push(found)?;
+    Ok(Some(all))
 }
 
 /// What an instruction finds that accesses no memory, or a store-conditional whose word isn't reserved: it makes no
@@ -65,6 +68,7 @@ fn nothing_found() -> Found
 }
 
 fn found_at(location: usize, number: u32) -> Found
+    ensures number { result.number ≡ number }
     ensures held { result.held ≡ false }
     ensures location { result.location ≡ Some location }
 {
@@ -75,25 +79,35 @@ fn found_at(location: usize, number: u32) -> Found
     }
 }
 
-/// What a store-conditional finds: where its word is reserved, it writes or fails as is chosen.
+/// What a store-conditional may find: where its word is reserved, it writes or fails.
 fn conditional(
     address: u32,
     location: usize,
     reserved: Option<u32>,
-    choices: &mut Choices,
-) -> Result<Found, AllocError>
-    ensures held { IfOk result (λ found. found.held ≡ true → holds_word reserved address ≡ true) }
-    ensures location { IfOk result (λ found. IsFoundConditional location found) }
+    alloc: Global,
+) -> Result<Option<Vec<Found>>, AllocError>
+    ensures { IfOk result (λ found. IfSome found (λ all.
+        All (IsFoundConditional address location reserved) all.items)) }
 {
     if !holds_word(reserved, address) {
-        return Ok(nothing_found());
+        return only(nothing_found(), alloc);
     }
-    let held = choices.choose(2)? == 0;
-    Ok(Found {
+    let mut all = Vec::new(alloc);
+    all.push(held_at(location))?;
+    all.push(found_at(location, 0))?;
+    Ok(Some(all))
+}
+
+/// What a store-conditional finds that writes.
+fn held_at(location: usize) -> Found
+    ensures held { result.held ≡ true }
+    ensures location { result.location ≡ Some location }
+{
+    Found {
         number: 0,
-        held,
+        held: true,
         location: Some(location),
-    })
+    }
 }
 
 /// The location that an instruction accesses at an address, if it accesses a whole word and one can stand there.
@@ -110,12 +124,15 @@ fn word_at(op: Op, address: u32) -> Option<usize>
     Some((offset / 4) as usize)
 }
 
-/// One of the numbers that a location may have.
-fn pick(location: usize, known: &Known, choices: &mut Choices) -> Result<Option<u32>, AllocError> {
-    let count = known.count(location);
-    if count == 0 {
-        return Ok(None);
+/// Each of the numbers that a location may have.
+fn numbers(location: usize, known: &Known, alloc: Global) -> Result<Option<Vec<Found>>, AllocError>
+    ensures { IfOk result (λ found. IfSome found (λ all. All (IsOneOf known.now.held.items location) all.items)) }
+{
+    let mut all = Vec::new(alloc);
+    for held in known.held.iter() {
+        if held.location == location {
+            all.push(found_at(location, held.number))?;
+        }
     }
-    let index = choices.choose(count)?;
-    Ok(known.number(location, index))
+    Ok(Some(all))
 }

@@ -1,6 +1,9 @@
 //! The numbers that a read may find at each word of the locations. What is called a location here is such a word.
 
-use crate::number::word_of;
+ghost use Rattle.std.specs.Prelude.{◌≡◌, IfOk, OnOk};
+ghost use Rattle.litmus_runs.specs.Ways.{AreKnown, MayHave};
+
+use crate::number::initial_number;
 use litmus_tests::LitmusTest;
 use std::alloc::{AllocError, Global};
 
@@ -9,25 +12,28 @@ const MOST_NUMBERS: usize = 256;
 
 /// A number that a location may have.
 #[derive(Clone, Copy, PartialEq, Eq, Drop)]
-struct Held {
-    location: usize,
-    number: u32,
+pub(crate) struct Held {
+    pub location: usize,
+    pub number: u32,
 }
 
 /// The numbers that the locations may have: at first those of the start.
 #[derive(Drop)]
 pub(crate) struct Known {
-    held: Vec<Held>,
+    pub held: Vec<Held>,
     /// Whether none was left out for want of room.
     pub is_whole: bool,
 }
 
 impl Known {
-    pub fn new(test: &LitmusTest, alloc: Global) -> Result<Known, AllocError> {
+    pub fn new(test: &LitmusTest, alloc: Global) -> Result<Known, AllocError>
+        ensures { IfOk result (AreKnown test.now) }
+    {
         let mut held = Vec::new(alloc);
-        for (location, found) in test.words.iter().enumerate() {
-            let number = word_of(*found);
-            held.push(Held { location, number })?;
+        for location in 0..test.words.len() {
+            if let Some(number) = initial_number(test, location) {
+                held.push(Held { location, number })?;
+            }
         }
         Ok(Known {
             held,
@@ -35,43 +41,32 @@ impl Known {
         })
     }
 
-    /// How many numbers a location may have.
-    pub fn count(&self, location: usize) -> usize {
-        let mut count = 0_usize;
-        for held in self.held.iter() {
-            if held.location == location {
-                count = count.saturating_add(1);
-            }
-        }
-        count
+    /// A copy of it, to add to.
+    pub fn copy(&self, alloc: Global) -> Result<Known, AllocError>
+        ensures { IfOk result (λ copy. copy.held.items ≡ self.now.held.items) }
+    {
+        Ok(Known {
+            held: self.held.as_slice().to_vec(alloc)?,
+            is_whole: self.is_whole,
+        })
     }
 
-    /// The number of a location with this index among its numbers.
-    pub fn number(&self, location: usize, index: usize) -> Option<u32> {
-        let mut left = index;
-        for held in self.held.iter() {
-            if held.location == location {
-                if left == 0 {
-                    return Some(held.number);
-                }
-                left -= 1;
-            }
-        }
-        None
-    }
-
-    /// Adds a number to those of a location. Answers whether it is new there.
-    pub fn add(&mut self, location: usize, number: u32) -> Result<bool, AllocError> {
+    /// Adds a number to those of a location.
+    pub fn add(&mut self, test: &LitmusTest, location: usize, number: u32) -> Result<(), AllocError>
+        requires may { MayHave test.now location number }
+        requires known { AreKnown test.now self.old }
+        ensures { OnOk result (AreKnown test.now self.new) }
+    {
         let new = Held { location, number };
         if holds(self.held.as_slice(), new) {
-            return Ok(false);
+            return Ok(());
         }
         if self.held.len() >= MOST_NUMBERS {
             self.is_whole = false;
-            return Ok(false);
+            return Ok(());
         }
         self.held.push(new)?;
-        Ok(true)
+        Ok(())
     }
 }
 

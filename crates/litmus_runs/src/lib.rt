@@ -1,17 +1,19 @@
 //! The ways of a litmus test's harts through their steps: each hart by itself, by the numbers that it may read, which are
 //! those that are there at the start and those that some hart may write.
 //!
-//! Proved of one step (`specs/Steps`): an instruction computes and does what the definitions say (`exec`, `effect_of`),
-//! where it finds some number, and reservations are theirs. That all ways are found is only tested.
+//! Proved (`specs/Ways`): each run that is listed is a way of its hart, by steps that do what the definitions say (`exec`,
+//! `effect_of`), and what it reads is there at the start or is written on such a way. That all are listed is only tested.
 //!
-//! Read in this order: `number` (the words that values are), `access` (what a hart does with memory at a step),
-//! `choices`, `known` (the numbers that a location may have), `registers`, `reservation`, `finding` (what an instruction
-//! finds), `made` (the access that it makes), `hart` (one step), `runs` (all ways of all harts).
+//! Read in this order: `number` (the words that values are), `access` (what a hart does with memory at a step), `known`
+//! (the numbers that a location may have), `registers`, `reservation`, `finding` (what an instruction finds), `made` (the
+//! access that it makes), `hart` (one step), `turns` (which turns of a loop are needless), `following` (all ways of one
+//! hart), `written` and `growth` (which numbers these write, and when all are known), `runs` (all ways of all harts).
 #![tactic(auto)]
 
 mod access;
-mod choices;
 mod finding;
+mod following;
+mod growth;
 mod hart;
 mod known;
 mod made;
@@ -19,8 +21,9 @@ mod number;
 mod registers;
 mod reservation;
 mod runs;
+mod turns;
+mod written;
 
 pub use access::{Access, MOST_ACCESSES};
-pub use choices::Choices;
 pub use number::{initial_number, word_of};
 pub use runs::{AllRuns, HartRuns, Run, all_runs};

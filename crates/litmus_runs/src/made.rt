@@ -1,15 +1,15 @@
 //! The access that an instruction makes, and those that a hart keeps.
 
-ghost use Rattle.std.specs.Prelude.{◌≡◌, ◌++◌, true, IfOk};
+ghost use Rattle.std.specs.Prelude.{◌≡◌, ◌++◌, IfOk, IfSome};
 ghost use Rattle.rv_instr.specs.Kinds.{kind_of};
-ghost use Rattle.litmus_runs.specs.Steps.{datum_of, number_read, those_made, IsMade};
+ghost use Rattle.litmus_runs.specs.Steps.{datum_of, number_read, reserving_behind, reserving_of, those_made, IsMade};
 
 use crate::access::{Access, MOST_ACCESSES};
 use crate::finding::Found;
 use events::Written;
 use rv_execute::reads_memory;
 use rv_instr::{Kind, Op};
-use std::alloc::AllocError;
+use std::alloc::{AllocError, Global};
 
 /// The access that an instruction makes, and of a store-conditional, which access has reserved its word.
 pub(crate) fn access_of(
@@ -19,7 +19,7 @@ pub(crate) fn access_of(
     step: usize,
     reserving: usize,
 ) -> Option<Access>
-    ensures { IsMade op found write result }
+    ensures { IsMade op found write step reserving result }
 {
     let location = found.location?;
     Some(Access {
@@ -49,32 +49,41 @@ fn datum_of(write: Option<Written>) -> Option<u32>
     }
 }
 
-fn reserved_by(op: Op, reserving: usize) -> Option<usize> {
+fn reserved_by(op: Op, reserving: usize) -> Option<usize>
+    ensures { result ≡ reserving_of (kind_of op) reserving }
+{
     match op.kind() {
         Kind::Conditional => Some(reserving),
-        _ => None,
+        Kind::Computing | Kind::Loading | Kind::Storing | Kind::Reserving | Kind::Atomic => None,
     }
 }
 
 /// Which access was the last load-reserved, behind one with this index.
-pub(crate) fn reserving(op: Op, before: usize, index: usize) -> usize {
+pub(crate) fn reserving(op: Op, before: usize, index: usize) -> usize
+    ensures { result ≡ reserving_behind (kind_of op) before index }
+{
     match op.kind() {
         Kind::Reserving => index,
-        _ => before,
+        Kind::Computing | Kind::Loading | Kind::Storing | Kind::Conditional | Kind::Atomic =>
+            before,
     }
 }
 
-/// Keeps an access that is made. Answers false where there are as many as there may be.
-pub(crate) fn keep(accesses: &mut Vec<Access>, made: Option<Access>) -> Result<bool, AllocError>
-    ensures { IfOk result (λ kept. kept ≡ true
-        → accesses.new.items ≡ accesses.old.items ++ those_made made) }
+/// The accesses of a hart with one that is made behind them. None where there are as many as there may be.
+pub(crate) fn with_made(
+    accesses: &[Access],
+    made: Option<Access>,
+    alloc: Global,
+) -> Result<Option<Vec<Access>>, AllocError>
+    ensures { IfOk result (λ kept. IfSome kept (λ all. all.items ≡ accesses.now ++ those_made made)) }
 {
+    let mut all = accesses.to_vec(alloc)?;
     let Some(access) = made else {
-        return Ok(true);
+        return Ok(Some(all));
     };
     if accesses.len() >= MOST_ACCESSES {
-        return Ok(false);
+        return Ok(None);
     }
-    accesses.push(access)?;
-    Ok(true)
+    all.push(access)?;
+    Ok(Some(all))
 }

@@ -1,17 +1,16 @@
 //! All ways in which each hart can go through its steps, by the numbers that it reads.
 
+ghost use Rattle.std.specs.Prelude.{◌≡◌, All, IfOk, Some, slice_get};
+ghost use Rattle.litmus_runs.specs.Ways.{AreKnown, AreRuns, IsRun};
+
 use crate::access::Access;
-use crate::choices::Choices;
-use crate::hart::Hart;
+use crate::following::{Asked, Ways, follow};
+use crate::growth::Growth;
 use crate::known::Known;
-use litmus_tests::{LitmusTest, Thread};
+use crate::turns::has_conditionals;
+use crate::written::Written;
+use litmus_tests::LitmusTest;
 use std::alloc::{AllocError, Global};
-
-/// How many steps a hart makes at most: a loop that goes on is cut.
-const MOST_STEPS_RUN: usize = 200;
-
-/// How many runs of one hart are looked at.
-const MOST_RUNS: usize = 10_000;
 
 /// How often the numbers are gathered that harts can write.
 const MOST_ROUNDS: usize = 64;
@@ -53,120 +52,94 @@ impl AllRuns {
     }
 }
 
-/// All runs in which each read finds a number that is there at the start, or that some such run writes. A number
-/// that is passed on from write to write was first written by one that depends on none of the others, so as many
-/// rounds find all as runs have writes.
-pub fn all_runs(test: &LitmusTest, alloc: Global) -> Result<AllRuns, AllocError> {
+/// All runs in which each read finds a number that is there at the start, or that some hart writes on its way.
+pub fn all_runs(test: &LitmusTest, alloc: Global) -> Result<AllRuns, AllocError>
+    ensures { IfOk result (λ runs. AreRuns test.now runs.harts.items) }
+{
     let mut known = Known::new(test, alloc)?;
-    let mut harts = gather(test, &known, alloc)?;
-    for round in 0..MOST_ROUNDS {
-        let is_over = round >= most_writes(&harts) || !learn(&mut known, &harts)?;
-        if is_over {
-            let is_whole = known.is_whole && are_whole(&harts);
-            return Ok(AllRuns { harts, is_whole });
+    let mut growth = Growth::new(test.words.len(), alloc)?;
+    'rounds: for _ in 0..MOST_ROUNDS {
+        let gathered = gather(test, &known, alloc)?;
+        growth.note(&known, &gathered.written.known);
+        if growth.is_over(&gathered.written) {
+            return Ok(gathered.into_runs(test));
         }
-        harts = gather(test, &known, alloc)?;
+        known = gathered.into_known(test);
     }
+    let gathered = gather(test, &known, alloc)?;
     Ok(AllRuns {
-        harts,
+        harts: gathered.harts,
         is_whole: false,
     })
 }
 
-fn gather(test: &LitmusTest, known: &Known, alloc: Global) -> Result<Vec<HartRuns>, AllocError> {
+/// What is found by the numbers that are known.
+#[derive(Drop)]
+struct Gathered {
+    harts: Vec<HartRuns>,
+    written: Written,
+}
+
+impl Gathered {
+    fn into_known(self, test: &LitmusTest) -> Known
+        requires { AreKnown test.now self.written.known }
+        ensures { AreKnown test.now result }
+    {
+        let written = self.written;
+        written.known
+    }
+
+    fn into_runs(self, test: &LitmusTest) -> AllRuns
+        requires { AreRuns test.now self.harts.items }
+        ensures { AreRuns test.now result.harts.items }
+    {
+        let is_whole = self.written.known.is_whole && are_whole(&self.harts);
+        AllRuns {
+            harts: self.harts,
+            is_whole,
+        }
+    }
+}
+
+fn gather(test: &LitmusTest, known: &Known, alloc: Global) -> Result<Gathered, AllocError>
+    requires { AreKnown test.now known.now }
+    ensures runs { IfOk result (λ gathered. AreRuns test.now gathered.harts.items) }
+    ensures written { IfOk result (λ gathered. AreKnown test.now gathered.written.known) }
+{
+    let has_conditionals = has_conditionals(test);
+    let mut written = Written::new(test, known, alloc)?;
     let mut harts = Vec::new(alloc);
-    for thread in test.threads.iter() {
-        harts.push(runs_of(thread, known, alloc)?)?;
-    }
-    Ok(harts)
-}
-
-fn runs_of(thread: &Thread, known: &Known, alloc: Global) -> Result<HartRuns, AllocError> {
-    let mut choices = Choices::new(alloc);
-    let mut runs = Vec::new(alloc);
-    let mut is_whole = true;
-    for _ in 0..MOST_RUNS {
-        match run_of(thread, known, &mut choices, alloc)? {
-            Some(run) => runs.push(run)?,
-            None => is_whole = false,
-        }
-        if !choices.advance()? {
-            return Ok(HartRuns { runs, is_whole });
-        }
-    }
-    Ok(HartRuns {
-        runs,
-        is_whole: false,
-    })
-}
-
-/// The run that these choices make; none where it is cut or can't be followed.
-fn run_of(
-    thread: &Thread,
-    known: &Known,
-    choices: &mut Choices,
-    alloc: Global,
-) -> Result<Option<Run>, AllocError> {
-    let mut hart = Hart::new(thread.starts.as_slice(), alloc);
-    for _ in 0..=MOST_STEPS_RUN {
-        let Some(step) = thread.steps.get(hart.next) else {
-            return Ok(Some(Run {
-                registers: hart.registers,
-                accesses: hart.into_accesses(),
-            }));
+    for (index, thread) in test.threads.iter().enumerate() {
+        let asked = Asked {
+            test,
+            index,
+            thread,
+            known,
+            has_conditionals,
         };
-        if !hart.take(*step, known, choices)? {
-            return Ok(None);
-        }
+        let hart = runs_of(&asked, &mut written, alloc)?;
+        harts.push(hart)?;
     }
-    Ok(None)
+    Ok(Gathered { harts, written })
+}
+
+fn runs_of(
+    asked: &Asked<'_, '_, '_>,
+    written: &mut Written,
+    alloc: Global,
+) -> Result<HartRuns, AllocError>
+    requires thread { slice_get asked.now.test.now.threads.items asked.now.index ≡ Some asked.now.thread.now }
+    requires known { AreKnown asked.now.test.now asked.now.known.now }
+    requires written { AreKnown asked.now.test.now written.old.known }
+    ensures runs { IfOk result (λ hart. All (IsRun asked.now.test.now asked.now.thread.now) hart.runs.items) }
+    ensures written { IfOk result (λ hart. AreKnown asked.now.test.now written.new.known) }
+{
+    let mut ways = Ways::new(alloc);
+    follow(asked, &mut ways, written, alloc)?;
+    written.end_hart();
+    Ok(ways.into_runs())
 }
 
 fn are_whole(harts: &Vec<HartRuns>) -> bool {
     harts.iter().all(|hart| hart.is_whole)
-}
-
-/// How many writes an execution of these runs has at most.
-fn most_writes(harts: &Vec<HartRuns>) -> usize {
-    let mut sum = 0_usize;
-    for hart in harts {
-        let mut most = 0_usize;
-        for run in hart.runs.iter() {
-            most = most.max(count_writes(run.accesses.as_slice()));
-        }
-        sum = sum.saturating_add(most);
-    }
-    sum
-}
-
-fn count_writes(accesses: &[Access]) -> usize {
-    accesses
-        .iter()
-        .filter(|access| access.writes.is_some())
-        .count()
-}
-
-/// Takes in what these runs write. Answers whether something of it is new.
-fn learn(known: &mut Known, harts: &Vec<HartRuns>) -> Result<bool, AllocError> {
-    let mut is_new = false;
-    for hart in harts {
-        for run in hart.runs.iter() {
-            if learn_run(known, run.accesses.as_slice())? {
-                is_new = true;
-            }
-        }
-    }
-    Ok(is_new)
-}
-
-fn learn_run(known: &mut Known, accesses: &[Access]) -> Result<bool, AllocError> {
-    let mut is_new = false;
-    for access in accesses {
-        if let Some(number) = access.writes {
-            if known.add(access.location, number)? {
-                is_new = true;
-            }
-        }
-    }
-    Ok(is_new)
 }

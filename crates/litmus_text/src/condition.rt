@@ -11,7 +11,7 @@ use std::io::Write;
 
 /// Writes a condition, with parentheses where they are needed: `not` binds most tightly, then `/\`, `\/`, `=>`
 /// and `<=>`.
-pub(crate) fn write_condition<W: Write>(
+pub fn write_condition<W: Write>(
     condition: &Condition,
     test: &LitmusTest,
     out: &mut W,

@@ -12,5 +12,7 @@ mod summary;
 mod value;
 mod verdict;
 
+pub use condition::write_condition;
+pub use state::write_state;
 pub use states::{holds_of_any, write_states};
 pub use verdict::{StatesVerdict, verdict_of};

@@ -22,11 +22,7 @@ use watched_outcomes::Outcome;
 /// Writes the line of a state: what is looked at, in the test's order, and each hart that stopped otherwise
 /// than at its EBREAK; one space between two.
 #[tactic(auto, unfolding(crate::specs::State::state_line))]
-pub(crate) fn write_state<W: Write>(
-    test: &LitmusTest,
-    outcome: &Outcome,
-    out: &mut W,
-) -> io::Result<()>
+pub fn write_state<W: Write>(test: &LitmusTest, outcome: &Outcome, out: &mut W) -> io::Result<()>
     ensures { OnOk result (Appends (W.contents out.old) (W.contents out.new)
         (state_line test.now outcome.now)) }
 {

@@ -10,15 +10,19 @@ use Rattle.std.proofs.Common.{◌∙◌, refl, sym, ap, subst, inl, inr, arith}
 use Rattle.std.proofs.{lemmas.Bool.cases_Bool, lemmas.Bool.Decides.nat_tests}
 use Rattle.elf_image.specs.Image.{ProgramImage, byte_in, code_word, code_writable}
 use Rattle.rv_instr.specs.{declared.op.Op.Op, Kinds.destination, Kinds.first_source, Kinds.second_source}
+use Rattle.rv_instr.specs.Kinds.{kind_of}
 use Rattle.rv_instr.specs.{declared.op.Op.TheVariants.NoWord, Decode.op_of_word, Registers.op_rs1, Registers.op_rs2}
 use Rattle.rv_instr.specs.{Table.OpInRange, Kinds.or_zero}
 use Rattle.rv_instr.proofs.DecodedLemmas.{op_rs1_below, op_rs2_below}
 use Rattle.decoded_code.specs.Code.{IsCodeOf, IsFound, found_at}
 use Rattle.decoded_code.proofs.Fetching.{found}
 use Rattle.decoded_code.specs.declared.code.{Code.Code, Fetched.Fetched}
-use Rattle.outcome_laws.specs.Live.{op_at, reads_register, may_follow, IsLiveTable}
+use Rattle.outcome_laws.specs.Tables.{op_at, reads_register, may_follow, may_go, IsLiveTable, IsKeptTable}
+use Rattle.outcome_laws.specs.Tables.{is_conditional, replaces_reservation}
+use Rattle.outcome_laws.proofs.Fitting.{follows_where_it_goes}
 use Rattle.live_registers.specs.declared.table.{LiveTable.LiveTable, Row.Row}
-use Rattle.live_registers.specs.Table.{all_alike, row_at, live_in, live_of, IsOfCode, IsGoodRow, AreGoodBelow}
+use Rattle.live_registers.specs.Table.{all_alike, row_at, live_in, live_of, kept_in, kept_of}
+use Rattle.live_registers.specs.Table.{IsAllAlike, IsTableOf, IsOfCode, IsGoodRow, IsKeptRow, AreGoodBelow}
 
 -- ---- Where there is no word
 
@@ -37,6 +41,10 @@ nothing_read r some reads = absurd (grind (arith, nat_tests))
 nowhere : (pc to : ℕ) → may_follow NoWord pc to ≡ true → ⊥
 unfolding may_follow
 nowhere pc to follows = absurd (grind arith)
+
+no_conditional : is_conditional (kind_of NoWord) ≡ true → ⊥
+unfolding kind_of
+no_conditional is = absurd (grind arith)
 
 no_op : (word : Option ℕ) → word ≡ None → op_of_word word ≡ NoWord
 unfolding op_of_word
@@ -78,6 +86,7 @@ record HasRow (table : LiveTable) (op : Op) (pc : ℕ) : Type 0 where
   row : Row
   at : row_at table pc ≡ Some row
   good : IsGoodRow table op pc row
+  kept : IsKeptRow table op pc row
 
 row_there : (start begin pc : ℕ) (rows : List Row) (row : Row) → begin ≡ start
     → (nat_le start pc && ((pc - start) % 4 == 0)) ≡ true → slice_get rows ((pc - start) / 4) ≡ Some row
@@ -97,7 +106,10 @@ has_row code table pc f of_code are found =
     record {
       row = good.1;
       at = row_there code.start table.start pc table.rows.items good.1 of_code.start split.0 good.3;
-      good = subst (λ p. IsGoodRow table f.op p good.1) here (subst (λ (w : Fetched). IsGoodRow table w.op (code.start + 4 * index) good.1) word good.4);
+      good = subst (λ p. IsGoodRow table f.op p good.1) here
+          (subst (λ (w : Fetched). IsGoodRow table w.op (code.start + 4 * index) good.1) word good.4);
+      kept = subst (λ p. IsKeptRow table f.op p good.1) here
+          (subst (λ (w : Fetched). IsKeptRow table w.op (code.start + 4 * index) good.1) word good.5);
     }
 
 or_true : (a b : Bool) → b ≡ true → (a || b) ≡ true
@@ -109,6 +121,10 @@ live_by : (table : LiveTable) (pc r : ℕ) (row : Row) → row_at table pc ≡ S
 live_by table pc r row at below live =
     let within : nat_lt r 32 ≡ true = grind (arith, nat_tests) in
     or_true table.everywhere (live_in r (row_at table pc)) (ap (live_in r) at ∙ rw (within, live) refl)
+
+kept_by : (table : LiveTable) (pc : ℕ) (row : Row) → row_at table pc ≡ Some row → row.kept ≡ true
+    → kept_of table pc ≡ true
+kept_by table pc row at kept = or_true table.everywhere (kept_in (row_at table pc)) (ap kept_in at ∙ kept)
 
 -- Where a table goes by its rows, none above 31 is live.
 live_below : (table : LiveTable) (pc r : ℕ) → table.everywhere ≡ false → live_of table pc r ≡ true → r < 32
@@ -164,33 +180,71 @@ module _ (image : ProgramImage) (code : Code) (table : LiveTable) (fixed : code_
             (both.1.good.stays to r (positive r some) below follows lives other)
       ]
 
-  good_table : IsLiveTable image (live_of table)
-  good_table = record {
+  used_at : (pc : ℕ) → (it : Finds pc) → is_conditional (kind_of it.op) ≡ true → kept_of table pc ≡ true
+  used_at pc it is =
+      elim it.known [
+        | inl none ↦ absurd (no_conditional (subst (λ o. is_conditional (kind_of o) ≡ true) none is))
+        | inr both ↦ kept_by table pc both.1.row both.1.at (both.1.kept.used is)
+      ]
+
+  kept_at : (pc to : ℕ) → (it : Finds pc) → may_follow it.op pc to ≡ true → kept_of table to ≡ true
+      → replaces_reservation (kind_of it.op) ≡ false → kept_of table pc ≡ true
+  kept_at pc to it follows keeps replaces =
+      elim it.known [
+        | inl none ↦ absurd (nowhere pc to (subst (λ o. may_follow o pc to ≡ true) none follows))
+        | inr both ↦ kept_by table pc both.1.row both.1.at (both.1.kept.stays to follows keeps replaces)
+      ]
+
+  -- Where an instruction goes on that the image has.
+  goes_by : (pc to : ℕ) → may_go (λ at. code_writable image) (λ at next. true) (op_at image pc) pc to ≡ true
+      → may_follow (op_at image pc) pc to ≡ true
+  goes_by pc to goes =
+      follows_where_it_goes (λ at. code_writable image) (λ at next. true) (op_at image pc) pc to fixed goes
+
+  good_live : IsLiveTable image (λ pc. code_writable image) (λ pc to. true) (live_of table)
+  good_live = record {
     reads = λ pc r some reads.
         let it = finds pc in
         reads_at pc r some it (subst (λ o. reads_register o r ≡ true) it.is_so reads);
-    stays = λ pc to r some follows lives other.
+    stays = λ pc to r some goes lives other.
         let it = finds pc in
-        stays_at pc to r some it (subst (λ o. may_follow o pc to ≡ true) it.is_so follows) lives
+        stays_at pc to r some it (subst (λ o. may_follow o pc to ≡ true) it.is_so (goes_by pc to goes)) lives
         (subst (λ o. (r == destination o) ≡ false) it.is_so other);
-    all = λ written pc r some. absurd (grind (arith, fixed, written));
+    all = λ pc r some written. absurd (grind (arith, fixed, written));
+  }
+
+  good_kept : IsKeptTable image (λ pc. code_writable image) (λ pc to. true) (kept_of table)
+  good_kept = record {
+    used = λ pc is.
+        let it = finds pc in used_at pc it (subst (λ o. is_conditional (kind_of o) ≡ true) it.is_so is);
+    stays = λ pc to goes keeps replaces.
+        let it = finds pc in
+        kept_at pc to it (subst (λ o. may_follow o pc to ≡ true) it.is_so (goes_by pc to goes)) keeps
+        (subst (λ o. replaces_reservation (kind_of o) ≡ false) it.is_so replaces);
+    all = λ pc written. absurd (grind (arith, fixed, written));
   }
 
 pub good : (image : ProgramImage) (code : Code) (table : LiveTable) → code_writable image ≡ false
     → IsCodeOf image (byte_in image) code → IsOfCode code table
-    → AreGoodBelow (length code.words.items) table code → IsLiveTable image (live_of table)
-good image code table fixed is of_code are = good_table image code table fixed is of_code are
+    → AreGoodBelow (length code.words.items) table code → IsTableOf image table
+good image code table fixed is of_code are = record {
+  live = good_live image code table fixed is of_code are;
+  kept = good_kept image code table fixed is of_code are;
+}
 
 -- Where every register is live, none is missing.
-pub everywhere_good : (image : ProgramImage) (live : ℕ → ℕ → Bool) → ((pc r : ℕ) → live pc r ≡ true)
-    → IsLiveTable image live
-everywhere_good image live all = record {
+pub everywhere_good : (image : ProgramImage) (changes : ℕ → Bool) (targets live : ℕ → ℕ → Bool)
+    → ((pc r : ℕ) → live pc r ≡ true) → IsLiveTable image changes targets live
+everywhere_good image changes targets live all = record {
   reads = λ pc r some reads. all pc r;
   stays = λ pc to r some follows lives other. all pc r;
-  all = λ written pc r some. all pc r;
+  all = λ pc r some changed. all pc r;
 }
 
 -- ---- Every register live everywhere
+
+kept_row : (table : LiveTable) (op : Op) (pc : ℕ) (row : Row) → row.kept ≡ true → IsKeptRow table op pc row
+kept_row table op pc row kept = record { used = λ is. kept; stays = λ to follows keeps replaces. kept }
 
 full_row : (table : LiveTable) (op : Op) (pc : ℕ) (row : Row) → row.live ≡ all_alike true
     → IsGoodRow table op pc row
@@ -217,22 +271,24 @@ element xs i below =
     ]
 
 full_below : (code : Code) (table : LiveTable) → IsOfCode code table
-    → All (λ (row : Row). row.live ≡ all_alike true) table.rows.items
+    → All (IsAllAlike true) table.rows.items
     → AreGoodBelow (length code.words.items) table code
 full_below code table of_code full index below =
     let word = element code.words.items index below in
     let rows = of_code.rows in
-    let row = element table.rows.items index (omega arith) in (
+    let row = element table.rows.items index (omega arith) in
+    let alike : IsAllAlike true row.element =
+    All-contains (IsAllAlike true) table.rows.items row.element full row.holds in (
       word.element,
       row.element,
       word.at,
       row.at,
-      full_row table word.element.op (code.start + 4 * index) row.element
-          (All-contains (λ (it : Row). it.live ≡ all_alike true) table.rows.items row.element full row.holds),
+      full_row table word.element.op (code.start + 4 * index) row.element alike.live_are,
+      kept_row table word.element.op (code.start + 4 * index) row.element alike.kept_is,
     )
 
 pub full_good : (image : ProgramImage) (code : Code) (table : LiveTable) → code_writable image ≡ false
     → IsCodeOf image (byte_in image) code → IsOfCode code table
-    → All (λ (row : Row). row.live ≡ all_alike true) table.rows.items → IsLiveTable image (live_of table)
+    → All (IsAllAlike true) table.rows.items → IsTableOf image table
 full_good image code table fixed is of_code full =
     good image code table fixed is of_code (full_below code table of_code full)

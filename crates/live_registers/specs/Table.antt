@@ -1,16 +1,25 @@
--- A table of live registers, a row for each word of a code. [This project's own choice]
-use Rattle.std.specs.Prelude.{◌≡◌, ℕ, ◌+◌, ◌-◌, ◌*◌, ◌/◌, ◌%◌, ◌<◌, Bool, true, false, ◌==◌, ◌&&◌, ◌||◌, nat_le, nat_lt, if◌then◌else◌}
+-- A table of live registers, and of reservations that may be used yet, a row for each word of a code. [This
+-- project's own choice]
+use Rattle.std.specs.Prelude.{◌≡◌, ℕ, ◌+◌, ◌-◌, ◌*◌, ◌/◌, ◌%◌, ◌<◌, Bool, true, false, ◌==◌, ◌&&◌, ◌||◌}
+use Rattle.std.specs.Prelude.{nat_le, nat_lt, if◌then◌else◌}
 use Rattle.std.specs.Prelude.{List, length, replicate, Option, Some, None}
 use Rattle.std.specs.{List.slice_get, List.slice_index_or, Option.option_map_or}
-use Rattle.rv_instr.specs.{declared.op.Op.Op, Kinds.destination}
+use Rattle.rv_instr.specs.{declared.op.Op.Op, Kinds.destination, Kinds.kind_of}
 use Rattle.decoded_code.specs.declared.code.{Code.Code, Fetched.Fetched}
-use Rattle.outcome_laws.specs.Live.{reads_register, may_follow}
+use Rattle.elf_image.specs.Image.{ProgramImage, code_writable}
+use Rattle.outcome_laws.specs.Tables.{reads_register, may_follow, IsLiveTable, IsKeptTable}
+use Rattle.outcome_laws.specs.Tables.{is_conditional, replaces_reservation}
 use Rattle.live_registers.specs.declared.table.LiveTable.{LiveTable}
 use Rattle.live_registers.specs.declared.table.Row.{Row}
 
 -- A row in which all registers are live, or none is.
 unfoldable pub all_alike : Bool → List Bool
 all_alike live = replicate 32 live
+
+-- So it is, and the reservation is kept, or it isn't.
+pub record IsAllAlike (live : Bool) (row : Row) : Type 0 where
+  pub live_are : row.live ≡ all_alike live
+  pub kept_is : row.kept ≡ live
 
 -- The row of the word at a pc, where the code has one.
 abbrev pub row_at : LiveTable → ℕ → Option Row
@@ -26,6 +35,19 @@ live_in r row = nat_lt r 32 && option_map_or (λ (it : Row). slice_index_or it.l
 abbrev pub live_of : LiveTable → ℕ → ℕ → Bool
 live_of table pc r = table.everywhere || live_in r (row_at table pc)
 
+-- A reservation is kept at a pc: the row there says so; where there is no word it isn't. Or each is.
+abbrev pub kept_in : Option Row → Bool
+kept_in row = option_map_or (λ (it : Row). it.kept) row false
+
+abbrev pub kept_of : LiveTable → ℕ → Bool
+kept_of table pc = table.everywhere || kept_in (row_at table pc)
+
+-- The table is good for an image: JALR may go anywhere, and where the code may be written any word of it may
+-- change.
+pub record IsTableOf (image : ProgramImage) (table : LiveTable) : Type 0 where
+  pub live : IsLiveTable image (λ pc. code_writable image) (λ pc to. true) (live_of table)
+  pub kept : IsKeptTable image (λ pc. code_writable image) (λ pc to. true) (kept_of table)
+
 -- The table goes by its rows, and has one for each word of the code.
 pub record IsOfCode (code : Code) (table : LiveTable) : Type 0 where
   pub by_rows : table.everywhere ≡ false
@@ -40,11 +62,17 @@ pub record IsGoodRow (table : LiveTable) (op : Op) (pc : ℕ) (row : Row) : Type
   pub stays : (to r : ℕ) → 0 < r → r < 32 → may_follow op pc to ≡ true → live_of table to r ≡ true
       → (r == destination op) ≡ false → slice_index_or row.live r false ≡ true
 
+-- So it is of the reservation: SC uses it, and LR and SC leave nothing of an earlier one.
+pub record IsKeptRow (table : LiveTable) (op : Op) (pc : ℕ) (row : Row) : Type 0 where
+  pub used : is_conditional (kind_of op) ≡ true → row.kept ≡ true
+  pub stays : (to : ℕ) → may_follow op pc to ≡ true → kept_of table to ≡ true
+      → replaces_reservation (kind_of op) ≡ false → row.kept ≡ true
+
 -- The row of a word of the code is good, at the word's pc.
 abbrev pub IsGoodAt : LiveTable → Code → ℕ → Type 0
 IsGoodAt table code index = (word : Fetched) × (row : Row)
     × (slice_get code.words.items index ≡ Some word) × (slice_get table.rows.items index ≡ Some row)
-    × IsGoodRow table word.op (code.start + 4 * index) row
+    × IsGoodRow table word.op (code.start + 4 * index) row × IsKeptRow table word.op (code.start + 4 * index) row
 
 abbrev pub AreGoodBelow : ℕ → LiveTable → Code → Type 0
 AreGoodBelow count table code = (index : ℕ) → index < count → IsGoodAt table code index

@@ -1,15 +1,17 @@
-//! When a table is good: a register is live wherever it may be read before it is written.
+//! When a table is good: a register is live wherever it may be read before it is written, and a reservation is kept
+//! wherever an SC may use it.
 
 ghost use Rattle.std.specs.Prelude.{◌≡◌, ◌<◌, ◌+◌, ◌*◌, ℕ, true, false, ◌==◌, length, IfSome};
-ghost use Rattle.rv_instr.specs.Kinds.{destination};
-ghost use Rattle.outcome_laws.specs.Live.{reads_register, may_follow};
+ghost use Rattle.rv_instr.specs.Kinds.{destination, kind_of};
+ghost use Rattle.outcome_laws.specs.Tables.{reads_register, may_follow, is_conditional, replaces_reservation};
 ghost use Rattle.live_registers.specs.Onward.{goes_on_at};
-ghost use Rattle.live_registers.specs.Table.{live_of, IsGoodRow, IsGoodAt, AreGoodBelow};
+ghost use Rattle.live_registers.specs.Table.{live_of, kept_of, IsGoodRow, IsKeptRow};
+ghost use Rattle.live_registers.specs.Table.{IsGoodAt, AreGoodBelow};
 
 use crate::onward::{Onward, onward_of};
 use crate::table::{LiveTable, REGISTERS, Row};
 use decoded_code::Code;
-use rv_instr::{Op, Reg};
+use rv_instr::{Kind, Op, Reg};
 
 /// Whether an instruction reads a register, 0 standing for one that it doesn't name.
 #[tactic(auto, unfolding(rv_instr::specs::Kinds::first_source, rv_instr::specs::Kinds::second_source))]
@@ -44,6 +46,41 @@ pub(crate) fn is_needed(table: &LiveTable, op: Op, pc: u32, register: Reg) -> bo
 {
     reads(op, register)
         || (register != op.destination() && is_live_behind(table, onward_of(op, pc), register))
+}
+
+/// Whether a reservation is kept at some place where an instruction may go on.
+fn is_kept_behind(table: &LiveTable, onward: Onward) -> bool
+    ensures { (to : ℕ) → goes_on_at onward to ≡ true → kept_of table.now to ≡ true
+        → result ≡ true }
+{
+    match onward {
+        Onward::Nowhere => false,
+        Onward::At(to) => table.is_kept(to),
+        Onward::AtEither(one, other) => table.is_kept(one) || table.is_kept(other),
+        Onward::Anywhere => true,
+    }
+}
+
+/// Whether a reservation has to be kept at a pc, by whether it is kept behind it.
+pub(crate) fn is_reservation_needed(table: &LiveTable, op: Op, pc: u32) -> bool
+    ensures used { is_conditional (kind_of op) ≡ true → result ≡ true }
+    ensures stays { (to : ℕ) → may_follow op pc to ≡ true → kept_of table.now to ≡ true
+        → replaces_reservation (kind_of op) ≡ false → result ≡ true }
+{
+    match op.kind() {
+        Kind::Conditional => true,
+        Kind::Reserving => false,
+        Kind::Computing | Kind::Loading | Kind::Storing | Kind::Atomic => {
+            is_kept_behind(table, onward_of(op, pc))
+        }
+    }
+}
+
+/// Whether the reservation is kept in this row if it has to be kept at a pc.
+fn is_row_kept(table: &LiveTable, op: Op, pc: u32, row: &Row) -> bool
+    ensures { result ≡ true → IsKeptRow table.now op pc row.now }
+{
+    row.kept || !is_reservation_needed(table, op, pc)
 }
 
 /// Whether each register that has to be live at a pc is live in this row.
@@ -86,7 +123,7 @@ fn is_good_at(table: &LiveTable, code: &Code, index: u32) -> bool
     let Some(row) = table.rows.get(index as usize) else {
         return false;
     };
-    is_row_good(table, fetched.op, pc, row)
+    is_row_good(table, fetched.op, pc, row) && is_row_kept(table, fetched.op, pc, row)
 }
 
 /// The pc of a word of the code, where it is one.

@@ -1,13 +1,12 @@
-//! How a table is found: from no register on, what has to be live is added, the last word first, until
-//! nothing is missing. Where that takes too long every register is live.
+//! How a table is found: from no register and no reservation on, what has to be live or kept is added, the last word
+//! first, until nothing is missing. Where that takes too long everything is.
 
 ghost use Rattle.std.specs.Prelude.{◌≡◌, ◌<◌, IfOk, All, length, false};
 ghost use Rattle.elf_image.specs.Image.{ProgramImage, byte_in, code_writable};
 ghost use Rattle.decoded_code.specs.Code.{IsCodeOf};
-ghost use Rattle.outcome_laws.specs.Live.{IsLiveTable};
-ghost use Rattle.live_registers.specs.Table.{live_of, IsOfCode, all_alike};
+ghost use Rattle.live_registers.specs.Table.{IsTableOf, IsOfCode, IsAllAlike};
 
-use crate::checking::{is_good, is_needed};
+use crate::checking::{is_good, is_needed, is_reservation_needed};
 use crate::table::{LiveTable, REGISTERS, Row};
 use decoded_code::Code;
 use elf_image::Image;
@@ -19,11 +18,11 @@ use std::alloc::{AllocError, Global};
 const MOST_TURNS: usize = 64;
 
 impl LiveTable {
-    /// The table of an image, whose code this is. Where the code may be written every register is live,
-    /// as another word may come to any place. Fails only for want of memory.
+    /// The table of an image, whose code this is. Where the code may be written every register is live, and each
+    /// reservation kept, as another word may come to any place. Fails only for want of memory.
     pub fn of(image: &Image, code: &Code, alloc: Global) -> Result<LiveTable, AllocError>
         requires { IsCodeOf image.now (byte_in image.now) code.now }
-        ensures { IfOk result (λ table. IsLiveTable image.now (live_of table)) }
+        ensures { IfOk result (IsTableOf image.now) }
     {
         if image.code_writable() {
             return Ok(LiveTable::everywhere(alloc));
@@ -31,9 +30,9 @@ impl LiveTable {
         LiveTable::of_words(code, alloc)
     }
 
-    /// The table in which every register is live everywhere. It has no rows.
+    /// The table in which every register is live everywhere, and each reservation kept. It has no rows.
     fn everywhere(alloc: Global) -> LiveTable
-        ensures { (image : ProgramImage) → IsLiveTable image (live_of result) }
+        ensures { (image : ProgramImage) → IsTableOf image result }
     {
         LiveTable {
             everywhere: true,
@@ -46,7 +45,7 @@ impl LiveTable {
     fn of_words(code: &Code, alloc: Global) -> Result<LiveTable, AllocError>
         ensures of_code { IfOk result (IsOfCode code.now) }
         ensures good { IfOk result (λ table. (image : ProgramImage) → code_writable image ≡ false
-            → IsCodeOf image (byte_in image) code.now → IsLiveTable image (live_of table)) }
+            → IsCodeOf image (byte_in image) code.now → IsTableOf image table) }
     {
         let table = LiveTable::found(code, alloc)?;
         if is_good(&table, code) {
@@ -68,16 +67,16 @@ impl LiveTable {
         Ok(table)
     }
 
-    /// The table of a code in which every register is live everywhere.
+    /// The table of a code in which every register is live everywhere, and each reservation kept.
     fn full(code: &Code, alloc: Global) -> Result<LiveTable, AllocError>
         ensures of_code { IfOk result (IsOfCode code.now) }
         ensures good { IfOk result (λ table. (image : ProgramImage) → code_writable image ≡ false
-            → IsCodeOf image (byte_in image) code.now → IsLiveTable image (live_of table)) }
+            → IsCodeOf image (byte_in image) code.now → IsTableOf image table) }
     {
         LiveTable::filled(code, true, alloc)
     }
 
-    /// Adds what has to be live to the rows, the last first. Answers whether anything was missing.
+    /// Adds what has to be live or kept to the rows, the last first. Answers whether anything was missing.
     fn add_needed(&mut self, code: &Code) -> bool
         requires { IsOfCode code.now self.old }
         ensures { IsOfCode code.now self.new }
@@ -92,7 +91,7 @@ impl LiveTable {
         has_added
     }
 
-    /// Adds what has to be live at a word. Answers whether anything was missing.
+    /// Adds what has to be live or kept at a word. Answers whether anything was missing.
     fn add_needed_at(&mut self, code: &Code, index: usize) -> bool
         requires inside { index < length code.now.words.items }
         requires of_code { IsOfCode code.now self.old }
@@ -106,16 +105,19 @@ impl LiveTable {
             .wrapping_add(u32::try_from(index).unwrap_or(0).wrapping_mul(4));
         let row = self.rows[index];
         let with_needed = self.with_needed(row, fetched.op, pc);
-        if with_needed.live == row.live {
+        if with_needed.live == row.live && with_needed.kept == row.kept {
             return false;
         }
         self.rows[index] = with_needed;
         true
     }
 
-    /// The row with what has to be live there.
+    /// The row with what has to be live or kept there.
     fn with_needed(&self, row: Row, op: Op, pc: u32) -> Row {
         let mut row = row;
+        if is_reservation_needed(self, op, pc) {
+            row.kept = true;
+        }
         for register in 1..REGISTERS as u8 {
             if is_needed(self, op, pc, register) {
                 row.live[usize::from(register)] = true;
@@ -124,10 +126,10 @@ impl LiveTable {
         row
     }
 
-    /// The table of a code in which all registers are live everywhere, or none is anywhere.
+    /// The table of a code in which all registers are live everywhere and each reservation kept, or none is anywhere.
     fn filled(code: &Code, live: bool, alloc: Global) -> Result<LiveTable, AllocError>
         ensures of_code { IfOk result (IsOfCode code.now) }
-        ensures all { IfOk result (λ table. All (λ row. row.live ≡ all_alike live) table.rows.items) }
+        ensures all { IfOk result (λ table. All (IsAllAlike live) table.rows.items) }
     {
         let mut rows = Vec::with_capacity(alloc, code.words.len())?;
         for _index in 0..code.words.len() {

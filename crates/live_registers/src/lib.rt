@@ -1,5 +1,5 @@
-//! Which registers may be read yet at each word of a code: a table that is computed by any means and
-//! then checked.
+//! Which registers may be read yet at each word of a code, and where a reservation may be used yet: a table that is
+//! computed by any means and then checked.
 //!
 //! Read in this order: `onward` (where an instruction may go on), `table` (a row for each word),
 //! `checking` (when a table is good), `filling` (how one is found).

@@ -1,5 +1,5 @@
 ghost use Rattle.std.specs.Prelude.{◌≡◌, ℕ};
-ghost use Rattle.outcome_laws.specs.Live.{may_follow, may_follow_of};
+ghost use Rattle.outcome_laws.specs.Tables.{may_follow, may_follow_of};
 ghost use Rattle.smt_model.specs.Exec.{extended, next_pc};
 ghost use Rattle.live_registers.specs.Onward.{goes_on_at};
 
@@ -19,7 +19,7 @@ pub enum Onward {
 }
 
 /// Where what was found at a pc may go on.
-#[tactic(auto, unfolding(outcome_laws::specs::Live::may_follow))]
+#[tactic(auto, unfolding(outcome_laws::specs::Tables::may_follow))]
 pub fn onward_of(op: Op, pc: u32) -> Onward
     ensures { (to : ℕ) → may_follow op pc to ≡ goes_on_at result to }
 {

@@ -1,5 +1,5 @@
 ghost use Rattle.std.specs.Prelude.{◌≡◌, ◌<◌};
-ghost use Rattle.live_registers.specs.Table.{row_at, live_of, all_alike};
+ghost use Rattle.live_registers.specs.Table.{row_at, live_of, kept_of, IsAllAlike};
 
 use rv_instr::Reg;
 
@@ -10,24 +10,27 @@ pub(crate) const REGISTERS: usize = 32;
 #[derive(Clone, Copy, Drop)]
 pub struct Row {
     pub live: [bool; REGISTERS],
+    /// Whether the hart's reservation may be used yet.
+    pub kept: bool,
 }
 
 impl Row {
-    /// A row in which all registers are live, or none is.
+    /// A row in which all registers are live and the reservation is kept, or none is.
     #[tactic(auto, unfolding(crate::specs::Table::all_alike))]
     pub(crate) fn all(live: bool) -> Self
-        ensures { result.live ≡ all_alike live }
+        ensures { IsAllAlike live result }
     {
         Row {
             live: [live; REGISTERS],
+            kept: live,
         }
     }
 }
 
-/// Which registers are live at each word of a code that begins at `start`.
+/// Which registers are live at each word of a code that begins at `start`, and whether a reservation is kept there.
 #[derive(Drop)]
 pub struct LiveTable {
-    /// Every register is live everywhere, whatever the rows say.
+    /// Every register is live everywhere, and each reservation kept, whatever the rows say.
     pub everywhere: bool,
     pub start: u32,
     pub rows: Vec<Row>,
@@ -53,6 +56,17 @@ impl LiveTable {
         self.everywhere
             || match self.row_at(pc) {
                 Some(row) => row.live[usize::from(register)],
+                None => false,
+            }
+    }
+
+    /// Whether a reservation may be used yet at a pc: where there is no word it isn't.
+    pub fn is_kept(&self, pc: u32) -> bool
+        ensures { result ≡ kept_of self.now pc }
+    {
+        self.everywhere
+            || match self.row_at(pc) {
+                Some(row) => row.kept,
                 None => false,
             }
     }

@@ -6,7 +6,7 @@ use Rattle.elf_image.proofs.Words.{word_now-same}
 use Rattle.smt_model.specs.{Setup.Setup, Words.op_of_word, Plain.Plain, Plain.op_at_pc}
 use Rattle.smt_laws.proofs.{Done.some_one, FixedCode.steps_keep_code}
 use Rattle.outcome_laws.specs.Paths.{can_step, stepped, path, HasItsCode, PathsKeepCode}
-use Rattle.outcome_laws.specs.{Live.AreAlike, Live.op_at, Search.IsLocalPath}
+use Rattle.outcome_laws.specs.{Tables.Tables, Tables.op_at, Live.AreAlike, Search.IsLocalPath}
 
 -- ---- Paths
 
@@ -25,20 +25,21 @@ has_path setup (h ∷ order) s t holds leads =
     let split = first_of (can_step setup h s) (path setup order (stepped setup h s)) t leads in
     has_path setup order (stepped setup h s) t (has_next setup h s holds) split.1
 
-pub has_local : (setup : Setup) (order : List ℕ) (s t : Plain) → HasItsCode setup s → IsLocalPath setup order s t
+pub has_local : (setup : Setup) (tables : Tables) (order : List ℕ) (s t : Plain) → HasItsCode setup s
+    → IsLocalPath setup tables order s t
     → HasItsCode setup t
-has_local setup [] s t holds same = subst (HasItsCode setup) same holds
-has_local setup (h ∷ order) s t holds way =
-    has_local setup order (stepped setup h s) t (has_next setup h s holds) way.2
+has_local setup tables [] s t holds same = subst (HasItsCode setup) same holds
+has_local setup tables (h ∷ order) s t holds way =
+    has_local setup tables order (stepped setup h s) t (has_next setup h s holds) way.2
 
 pub paths_keep_code : PathsKeepCode
 paths_keep_code setup = ((λ fixed pc. refl), has_path setup)
 
 -- ---- Alike states
 
-pub has_alike : (setup : Setup) (watched : ℕ → Bool) (live : ℕ → ℕ → Bool) (s t : Plain) → AreAlike watched live s t
+pub has_alike : (setup : Setup) (watched : ℕ → Bool) (tables : Tables) (s t : Plain) → AreAlike watched tables s t
     → HasItsCode setup s → HasItsCode setup t
-has_alike setup watched live s t alike holds fixed pc =
+has_alike setup watched tables s t alike holds fixed pc =
     word_now-same setup.image t.bytes s.bytes (λ a. sym (alike.bytes a)) pc ∙ holds fixed pc
 
 -- ---- What is found at a pc

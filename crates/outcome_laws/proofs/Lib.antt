@@ -1,6 +1,16 @@
 pub mod Paths
 pub mod Holding
+pub mod Facts
+pub mod Words
+pub mod Uses
+pub mod Silent
+pub mod Known
 pub mod Local
+pub mod Commuting
+pub mod Staying
+pub mod Fitting
+pub mod Afterwards
 pub mod Live
 pub mod Search
 pub mod Settling
+pub mod Seen

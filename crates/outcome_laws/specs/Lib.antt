@@ -1,4 +1,5 @@
 pub mod Paths
+pub mod Tables
 pub mod Local
 pub mod Live
 pub mod Search

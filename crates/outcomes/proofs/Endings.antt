@@ -4,7 +4,7 @@ use Rattle.std.proofs.Common.{◌∙◌, refl, ap₂, arith}
 use Rattle.std.proofs.{lemmas.Bool.Decides.nat_tests, Math.Path.fun_ext}
 use Rattle.smt_model.specs.{declared.config.Status.Status}
 use Rattle.smt_model.specs.{Basics.below, Plain.Plain, Bytes.number_at}
-use Rattle.outcome_laws.specs.Live.{AreAlike}
+use Rattle.outcome_laws.specs.{Tables.Tables, Live.AreAlike}
 use Rattle.condensed_machine.specs.Resting.{is_watched}
 use Rattle.watched_outcomes.specs.declared.{watch.Watch.Watch, watch.WatchedRegister.WatchedRegister}
 use Rattle.watched_outcomes.specs.{Endings.ending_of, Endings.watched_in, Endings.word_in}
@@ -36,10 +36,10 @@ parts_same h watch s t statuses registers bytes output =
       output = o;
     }) bytes output
 
-pub alike_ends : (h harts : ℕ) (watched : List Bool) (live : ℕ → ℕ → Bool) (watch : Watch) (s t : Plain)
-    → AreWatched watched watch → AreThere harts watch → AreAlike (is_watched watched) live s t
+pub alike_ends : (h harts : ℕ) (watched : List Bool) (tables : Tables) (watch : Watch) (s t : Plain)
+    → AreWatched watched watch → AreThere harts watch → AreAlike (is_watched watched) tables s t
     → ending_of h watch s ≡ ending_of h watch t
-alike_ends h harts watched live watch s t marked there alike =
+alike_ends h harts watched tables watch s t marked there alike =
     parts_same h watch s t (fun_ext alike.statuses)
     (map_members (watched_in s) (watched_in t) watch.registers.items (λ k w at.
     let number = is_number harts w (there k w at) in

@@ -4,21 +4,19 @@ use Rattle.std.specs.Prelude.{List, [], ◌∷◌, ◌++◌, replicate, length, 
 use Rattle.std.proofs.Common.{refl, sym, ap, subst, inl, inr, arith}
 use Rattle.std.proofs.lemmas.Bool.{cases_Bool, Decides.nat_tests}
 use Rattle.std.proofs.lemmas.Option.{slice_get_within, slice_get_cases}
-use Rattle.std.proofs.lemmas.List.{append-nil, append_assoc}
 use Rattle.smt_model.specs.{Setup.Setup, Plain.Plain, Plain.start}
-use Rattle.live_registers.specs.Table.{live_of}
-use Rattle.outcome_laws.specs.{Paths.can_step, Paths.path, Paths.IsEnd, Paths.HasItsCode}
-use Rattle.outcome_laws.specs.{Live.AreAlike, Live.IsLiveTable}
+use Rattle.outcome_laws.specs.{Paths.can_step, Paths.IsEnd}
+use Rattle.outcome_laws.specs.Tables.{Tables, IsTables, IsAsCoded}
 use Rattle.outcome_laws.specs.Search.{Visited, IsWay, GoesOn, IsEnough, HasWay, SettlesAt, IsReached, CanEnd}
-use Rattle.outcome_laws.proofs.Holding.{has_alike, has_path, paths_keep_code}
-use Rattle.outcome_laws.proofs.Search.{flip, local_leads, what_settles_is_reached, no_end_is_reached}
-use Rattle.outcome_laws.proofs.Settling.{end_alike, each_can_end}
+use Rattle.outcome_laws.proofs.Known.{coded_alike, starts_as_coded}
+use Rattle.outcome_laws.proofs.Search.{self_alike, flip}
+use Rattle.outcome_laws.proofs.Settling.{end_alike, no_end_is_reached, each_can_end}
 use Rattle.searches.specs.Found.{Found, IsGraph, IsEdge, Follows, edge_at, moves_at}
-use Rattle.searches.specs.{Orders.Leads, Ending.CanEnd as GraphCanEnd, Ending.IsLeastStuck}
-use Rattle.searches.specs.declared.{moves.Move.Move}
+use Rattle.searches.specs.{Ending.CanEnd as GraphCanEnd, Ending.IsLeastStuck}
 use Rattle.searches.proofs.Places.{same_element}
-use Rattle.condensed_machine.specs.{Machine.Machine, Machine.IsSound, Resting.is_watched, Decoded.state_of}
-use Rattle.condensed_machine.specs.Steps.{Steps, MakesStep, HasBegun, turns}
+use Rattle.condensed_machine.specs.{Machine.Machine, Machine.IsSound, Machine.tables_of, Resting.is_watched}
+use Rattle.condensed_machine.specs.{Decoded.state_of}
+use Rattle.condensed_machine.specs.Steps.{Steps, MakesStep, HasBegun}
 use Rattle.condensed_machine.specs.declared.{begun.Begun.Begun, state.State.State}
 use Rattle.outcomes.specs.{Told.order_at, Found.IsStuckTold}
 use Rattle.outcomes.proofs.Reaching.{step_reached, reached_by}
@@ -49,16 +47,6 @@ not_there xs k none below =
 none_some : {A : Type 0} → (x : A) → None ≡ Some x → ⊥
 none_some x same = absurd (grind arith)
 
-own : (watched : ℕ → Bool) (live : ℕ → ℕ → Bool) (s : Plain) → AreAlike watched live s s
-own watched live s = record {
-  pcs = λ h. refl;
-  statuses = λ h. refl;
-  reserved = λ h. refl;
-  bytes = λ a. refl;
-  output = refl;
-  registers = λ h r some now. refl;
-}
-
 both_first : (a b : Bool) → (a && b) ≡ true → a ≡ true
 both_first true b both = refl
 both_first false b both = absurd (grind arith)
@@ -73,8 +61,8 @@ module _ (setup : Setup) (m : Machine) (begun : Begun) (found : Found State ℕ)
   abbrev pub watched : ℕ → Bool
   watched = is_watched m.program.watched
 
-  abbrev pub live : ℕ → ℕ → Bool
-  live = live_of m.program.live
+  abbrev pub tables : Tables
+  tables = tables_of m.program
 
   abbrev pub visited : Visited
   visited = record {
@@ -82,8 +70,8 @@ module _ (setup : Setup) (m : Machine) (begun : Begun) (found : Found State ℕ)
     edge = λ k h. if nat_lt h setup.harts then edge_at found k h else None;
   }
 
-  pub table : IsLiveTable setup.image live
-  table = subst (λ i. IsLiveTable i live) (sym image) sound.live
+  pub good : IsTables setup.image tables
+  good = subst (λ i. IsTables i tables) (sym image) sound.tables
 
   below_harts : (h : ℕ) → nat_lt h setup.harts ≡ true → h < m.program.harts
   below_harts h inside = grind (arith, nat_tests, harts)
@@ -101,7 +89,7 @@ module _ (setup : Setup) (m : Machine) (begun : Begun) (found : Found State ℕ)
 
   goes : (k h : ℕ) (t : State) → can_step setup h (state_of m t) ≡ true → nat_lt h setup.harts ≡ true
       → (e : Option ℕ) → edge_at found k h ≡ e → IsEdge (Steps m) found t h e
-      → GoesOn setup watched live visited k h (state_of m t)
+      → GoesOn setup watched tables visited k h (state_of m t)
   goes k h t can below None is none =
       let over = none setup image harts in absurd (grind arith)
   goes k h t can below (Some q) is on =
@@ -111,18 +99,19 @@ module _ (setup : Setup) (m : Machine) (begun : Begun) (found : Found State ℕ)
         state = state_of m on.0;
         edge = rw below is;
         at = ap (option_map (state_of m)) on.2;
+        fits = made.fits;
         settles = made.leads.settles;
       }
 
-  pub enough : IsEnough setup watched live visited
+  pub enough : IsEnough setup watched tables visited
   enough k h s at can =
       let t = state_at k s at in
       let can_t : can_step setup h (state_of m t.0) ≡ true = subst (λ z. can_step setup h z ≡ true) (sym t.2) can in
       let below = both_first (nat_lt h setup.harts) _ can in
-      subst (GoesOn setup watched live visited k h) t.2
+      subst (GoesOn setup watched tables visited k h) t.2
       (goes k h t.0 can_t below (edge_at found k h) refl (graph.along k h t.0 t.1 (below_harts h below)))
 
-  pub start_settles : SettlesAt setup watched live visited 0 (start setup)
+  pub start_settles : SettlesAt setup watched tables visited 0 (start setup)
   start_settles = record {
     state = state_of m begun.state;
     at = ap (option_map (state_of m)) graph.first;
@@ -166,9 +155,9 @@ module _ (setup : Setup) (m : Machine) (begun : Begun) (found : Found State ℕ)
   -- ---- Orders
 
   abbrev Reached : Plain → List ℕ → State → Type 0
-  Reached from order t = IsReached setup watched live from order (state_of m t)
+  Reached from order t = IsReached setup watched tables from order (state_of m t)
 
-  one_more : (from : Plain) (order : List ℕ) (s u : State) (h way : ℕ) → HasItsCode setup from → Reached from order s
+  one_more : (from : Plain) (order : List ℕ) (s u : State) (h way : ℕ) → Reached from order s
       → MakesStep setup m s h (record { state = u; way = way }) → Reached from (order ++ h ∷ replicate way h) u
   one_more = step_reached setup m begun sound begins image harts
 
@@ -176,15 +165,10 @@ module _ (setup : Setup) (m : Machine) (begun : Begun) (found : Found State ℕ)
       → Reached (start setup) (order_at begun.ways m.program.harts found.origins k) t
   reached k t at = reached_by setup m begun sound begins image harts (moves_at found.origins k) t (graph.moved k t at)
 
-  -- Code that may not be written is what the image has, in each state and where the order to it leads.
-  holds_there : (k : ℕ) (t : State) (at : slice_get found.states k ≡ Some t) → HasItsCode setup (reached k t at).state
-  holds_there k t at =
-      has_path setup (order_at begun.ways m.program.harts found.origins k) (start setup) (reached k t at).state
-      (paths_keep_code setup).0 (reached k t at).leads
-
-  holds_in : (k : ℕ) (t : State) → slice_get found.states k ≡ Some t → HasItsCode setup (state_of m t)
-  holds_in k t at =
-      has_alike setup watched live (reached k t at).state (state_of m t) (reached k t at).alike (holds_there k t at)
+  -- Code that may not change is what the image has, in each state.
+  coded_in : (k : ℕ) (t : State) → slice_get found.states k ≡ Some t → IsAsCoded setup tables (state_of m t)
+  coded_in k t at =
+      let z = reached k t at in coded_alike setup watched tables z.state (state_of m t) z.alike z.coded
 
   -- ---- Ways to an end
 
@@ -197,16 +181,16 @@ module _ (setup : Setup) (m : Machine) (begun : Begun) (found : Found State ℕ)
       (on.0, on.1, subst (λ p. slice_get found.states p ≡ Some on.0) same on.2, on.3 setup image harts)
 
   by_way : (from : Plain) (way : List ℕ) (k q : ℕ) (order : List ℕ) (s t : State) → slice_get found.states k ≡ Some s
-      → slice_get found.states q ≡ Some t → HasItsCode setup from → Reached from order s → Follows found k way q
+      → slice_get found.states q ≡ Some t → Reached from order s → Follows found k way q
       → (more : List ℕ) × Reached from more t
-  by_way from [] k q order s t at last holds so_far same =
+  by_way from [] k q order s t at last so_far same =
       let is : s ≡ t = same_element found.states k s t at (subst (λ p. slice_get found.states p ≡ Some t) (sym same) last) in
       (order, subst (Reached from order) is so_far)
-  by_way from (h ∷ way) k q order s t at last holds so_far follows =
+  by_way from (h ∷ way) k q order s t at last so_far follows =
       let below : h < m.program.harts = subst (λ n. h < n) graph.all_harts follows.1 in
       let on = edge_made k h follows.0 s follows.2 (edge_at found k h) refl (graph.along k h s at below) in
-      by_way from way follows.0 q (order ++ h ∷ replicate on.1 h) on.0 t on.2 last holds
-      (one_more from order s on.0 h on.1 holds so_far on.3) follows.3
+      by_way from way follows.0 q (order ++ h ∷ replicate on.1 h) on.0 t on.2 last
+      (one_more from order s on.0 h on.1 so_far on.3) follows.3
 
   can_end : (k : ℕ) (s : State) → slice_get found.states k ≡ Some s → GraphCanEnd found k → CanEnd setup (state_of m s)
   can_end k s at way =
@@ -217,15 +201,19 @@ module _ (setup : Setup) (m : Machine) (begun : Begun) (found : Found State ℕ)
           → CanEnd setup (state_of m s)
       by None is inside = absurd (not_there found.states way.1 is inside)
       by (Some t) is inside =
-          let go = by_way (state_of m s) way.0 k way.1 [] s t at is (holds_in k s at)
-          (record { state = state_of m s; leads = refl; alike = own watched live (state_of m s) }) way.2 in
+          let go = by_way (state_of m s) way.0 k way.1 [] s t at is (record {
+            state = state_of m s;
+            leads = refl;
+            coded = coded_in k s at;
+            alike = self_alike watched tables (state_of m s);
+          }) way.2 in
           let z = go.1 in
           record {
             order = go.0;
             last = z.state;
             leads = z.leads;
-            is_end = end_alike setup watched live table (state_of m t) z.state
-                (flip watched live z.state (state_of m t) z.alike) (is_end way.1 t is way.3);
+            is_end = end_alike setup watched tables (state_of m t) z.state
+                (flip watched tables z.state (state_of m t) z.alike) (is_end way.1 t is way.3);
           }
 
   -- ---- Where no way leads to an end
@@ -267,7 +255,7 @@ module _ (setup : Setup) (m : Machine) (begun : Begun) (found : Found State ℕ)
   pub stuck_told : (stuck : Option ℕ) → IsLeastStuck found stuck
       → IsStuckTold setup (option_map (order_at begun.ways m.program.harts found.origins) stuck)
   stuck_told None each =
-      each_can_end setup watched live table visited enough 0 (start setup) (paths_keep_code setup).0 start_settles
+      each_can_end setup watched tables good visited enough 0 (start setup) (starts_as_coded setup tables) start_settles
       (λ a way. by a way (state_at way.place a way.at))
     where
       by : (a : Plain) (way : HasWay visited 0 a)
@@ -285,7 +273,7 @@ module _ (setup : Setup) (m : Machine) (begun : Begun) (found : Found State ℕ)
             z.state,
             z.leads,
             λ can.
-                no_end_is_reached setup watched live table visited enough p z.state (holds_there p t is)
+                no_end_is_reached setup watched tables good visited enough p z.state z.coded
                 (record {
                   state = state_of m t;
                   at = ap (option_map (state_of m)) is;

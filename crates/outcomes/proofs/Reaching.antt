@@ -1,21 +1,20 @@
 -- The moves of a search lead to its states, and to ends where it lists them, be they all or some.
 use Rattle.std.specs.Prelude.{◌≡◌, ◌⊎◌, ℕ, ◌<◌, Bool, true, false, ◌&&◌, nat_lt, List, [], ◌∷◌, ◌++◌, replicate, Some}
-use Rattle.std.specs.Prelude.{slice_get, Contains, None, Option}
+use Rattle.std.specs.Prelude.{slice_get, Contains}
 use Rattle.std.proofs.Common.{refl, sym, subst, inl, inr, arith}
 use Rattle.std.proofs.lemmas.Bool.{cases_Bool, Decides.nat_tests}
 use Rattle.std.proofs.lemmas.List.{append-nil, append_assoc}
 use Rattle.smt_model.specs.{Setup.Setup, Plain.Plain, Plain.start}
-use Rattle.live_registers.specs.Table.{live_of}
-use Rattle.outcome_laws.specs.{Paths.can_step, Paths.path, Paths.IsEnd, Paths.HasItsCode}
-use Rattle.outcome_laws.specs.Live.{IsLiveTable}
+use Rattle.outcome_laws.specs.{Paths.can_step, Paths.path, Paths.IsEnd, Tables.Tables, Tables.IsTables}
 use Rattle.outcome_laws.specs.Search.{IsReached}
-use Rattle.outcome_laws.proofs.Holding.{paths_keep_code}
+use Rattle.outcome_laws.proofs.Known.{coded_local, starts_as_coded}
 use Rattle.outcome_laws.proofs.Search.{local_leads, what_settles_is_reached}
 use Rattle.searches.specs.Found.{Found, IsPart, moves_at}
 use Rattle.searches.specs.{Orders.Leads}
 use Rattle.searches.specs.declared.{moves.Move.Move}
 use Rattle.searches.proofs.Places.{same_element}
-use Rattle.condensed_machine.specs.{Machine.Machine, Machine.IsSound, Resting.is_watched, Decoded.state_of}
+use Rattle.condensed_machine.specs.{Machine.Machine, Machine.IsSound, Machine.tables_of, Resting.is_watched}
+use Rattle.condensed_machine.specs.{Decoded.state_of}
 use Rattle.condensed_machine.specs.Steps.{Steps, MakesStep, HasBegun, turns}
 use Rattle.condensed_machine.specs.declared.{begun.Begun.Begun, state.State.State}
 use Rattle.outcomes.specs.{Told.moved, Told.order_at}
@@ -29,31 +28,30 @@ module _ (setup : Setup) (m : Machine) (begun : Begun) (sound : IsSound m.progra
   abbrev pub watched : ℕ → Bool
   watched = is_watched m.program.watched
 
-  abbrev pub live : ℕ → ℕ → Bool
-  live = live_of m.program.live
+  abbrev pub tables : Tables
+  tables = tables_of m.program
 
-  pub table : IsLiveTable setup.image live
-  table = subst (λ i. IsLiveTable i live) (sym image) sound.live
+  pub good : IsTables setup.image tables
+  good = subst (λ i. IsTables i tables) (sym image) sound.tables
 
   abbrev Reached : Plain → List ℕ → State → Type 0
-  Reached from order t = IsReached setup watched live from order (state_of m t)
+  Reached from order t = IsReached setup watched tables from order (state_of m t)
 
-  pub step_reached : (from : Plain) (order : List ℕ) (s u : State) (h way : ℕ) → HasItsCode setup from → Reached from order s
+  pub step_reached : (from : Plain) (order : List ℕ) (s u : State) (h way : ℕ) → Reached from order s
       → MakesStep setup m s h (record { state = u; way = way }) → Reached from (order ++ h ∷ replicate way h) u
-  step_reached from order s u h way holds reached made =
+  step_reached from order s u h way reached made =
       subst (λ o. Reached from (order ++ h ∷ o) u) made.leads.by
-      (what_settles_is_reached setup watched live table from order (state_of m s) (state_of m u) h holds reached
-      made.can made.leads.settles)
+      (what_settles_is_reached setup watched tables good from order (state_of m s) (state_of m u) h reached made.can
+      made.fits made.leads.settles)
 
-  by_moves : (from : Plain) (moves : List (Move ℕ)) (order : List ℕ) (s t : State) → HasItsCode setup from
-      → Reached from order s
+  by_moves : (from : Plain) (moves : List (Move ℕ)) (order : List ℕ) (s t : State) → Reached from order s
       → Leads (Steps m) s moves t → Reached from (order ++ moved moves) t
-  by_moves from [] order s t holds reached same =
+  by_moves from [] order s t reached same =
       subst (λ o. Reached from o t) (sym (append-nil order)) (subst (Reached from order) same reached)
-  by_moves from (move ∷ moves) order s t holds reached leads =
-      let one = step_reached from order s leads.0 move.hart move.way holds reached (leads.1 setup image harts) in
+  by_moves from (move ∷ moves) order s t reached leads =
+      let one = step_reached from order s leads.0 move.hart move.way reached (leads.1 setup image harts) in
       subst (λ o. Reached from o t) (append_assoc order (move.hart ∷ replicate move.way move.hart) (moved moves))
-      (by_moves from moves (order ++ move.hart ∷ replicate move.way move.hart) leads.0 t holds one leads.2)
+      (by_moves from moves (order ++ move.hart ∷ replicate move.way move.hart) leads.0 t one leads.2)
 
   start_reached : Reached (start setup) (turns begun.ways m.program.harts) begun.state
   start_reached =
@@ -62,15 +60,16 @@ module _ (setup : Setup) (m : Machine) (begun : Begun) (sound : IsSound m.progra
       record {
         state = settles.there;
         leads = subst (λ o. path setup o (start setup) ≡ Some settles.there) by.by
-            (local_leads setup settles.order (start setup) settles.there settles.local);
+            (local_leads setup tables settles.order (start setup) settles.there settles.local);
+        coded = coded_local setup tables good settles.order (start setup) settles.there (starts_as_coded setup tables)
+            settles.local;
         alike = settles.alike;
       }
 
   pub reached_by : (moves : List (Move ℕ)) (t : State) → Leads (Steps m) begun.state moves t
       → Reached (start setup) (turns begun.ways m.program.harts ++ moved moves) t
   reached_by moves t leads =
-      by_moves (start setup) moves (turns begun.ways m.program.harts) begun.state t (paths_keep_code setup).0
-      start_reached leads
+      by_moves (start setup) moves (turns begun.ways m.program.harts) begun.state t start_reached leads
 
   -- ---- Of a part
 

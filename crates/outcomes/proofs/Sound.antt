@@ -22,7 +22,7 @@ use Rattle.outcomes.specs.Collected.{ending_at, IsOfEnd, AreOutcomes, IsAskedAt}
 use Rattle.outcomes.specs.Found.{Told, EndsSo}
 use Rattle.outcomes.specs.Told.{told_of, order_at}
 use Rattle.outcomes.proofs.{Listing.contains_map, Listing.mapped_from, Endings.alike_ends}
-use Rattle.outcomes.proofs.Reaching.{watched, live, table, part_reached, part_end}
+use Rattle.outcomes.proofs.Reaching.{watched, tables, part_reached, part_end}
 
 -- A graph is a part of itself.
 module _ {S W : Type 0} (Steps : S → ℕ → Option (Step S W) → Type 0) (harts : ℕ) (start : S) (found : Graph S W)
@@ -77,14 +77,13 @@ module _ (setup : Setup) (m : Machine) (begun : Begun) (sound : IsSoundProgram m
         last = z.state;
         leads = z.leads;
         is_end = end_alike setup (watched setup m begun sound begins image harts)
-            (live setup m begun sound begins image harts) (table setup m begun sound begins image harts)
-            (state_of m end.state) z.state
-            (flip (watched setup m begun sound begins image harts) (live setup m begun sound begins image harts) z.state
-            (state_of m end.state) z.alike)
+            (tables setup m begun sound begins image harts) (state_of m end.state) z.state
+            (flip (watched setup m begun sound begins image harts) (tables setup m begun sound begins image harts)
+            z.state (state_of m end.state) z.alike)
             (part_end setup m begun sound begins image harts found part l.place end.state end.at end.is_end);
         is = end.is
             ∙ (sym (alike_ends m.program.harts m.program.harts m.program.watched
-            (live setup m begun sound begins image harts) watch z.state (state_of m end.state) marked there z.alike)
+            (tables setup m begun sound begins image harts) watch z.state (state_of m end.state) marked there z.alike)
             ∙ sym (same_harts z.state));
       }
 

@@ -3,9 +3,8 @@ use Rattle.std.specs.Prelude.{◌≡◌, ◌≢◌, ℕ, Bool, List, Option, All
 use Rattle.std.proofs.Common.{◌∙◌, sym, ap, subst}
 use Rattle.smt_model.specs.{Setup.Setup, Plain.Plain, Plain.start}
 use Rattle.outcome_laws.specs.Paths.{IsEnd}
-use Rattle.outcome_laws.proofs.Holding.{paths_keep_code}
-use Rattle.outcome_laws.proofs.Search.{every_end_is_visited}
-use Rattle.outcome_laws.proofs.Settling.{end_alike}
+use Rattle.outcome_laws.proofs.Known.{starts_as_coded}
+use Rattle.outcome_laws.proofs.Settling.{end_alike, every_end_is_visited}
 use Rattle.searches.specs.declared.extent.Extent.{Extent}
 use Rattle.searches.specs.{Found.Found as Graph, Found.IsGraph, Ending.IsLeastStuck}
 use Rattle.condensed_machine.specs.{Machine.Machine, Machine.IsSound as IsSoundProgram, Decoded.state_of}
@@ -19,7 +18,8 @@ use Rattle.outcomes.specs.Collected.{ending_at, is_unwritten, AreOutcomes}
 use Rattle.outcomes.specs.Found.{Found, HasOutcome, ListsAll, IsSound, IsExactList}
 use Rattle.outcomes.specs.Told.{told_of, order_at}
 use Rattle.outcomes.proofs.{Listing.contains_map, Endings.alike_ends, Throughout.unwritten_told}
-use Rattle.outcomes.proofs.Graph.{watched, live, visited, table, enough, start_settles, state_at, is_listed, stuck_told}
+use Rattle.outcomes.proofs.Graph.{watched, tables, good, visited, enough, start_settles, state_at, is_listed}
+use Rattle.outcomes.proofs.Graph.{stuck_told}
 use Rattle.outcomes.proofs.Sound.{sound_told, part_of_graph}
 
 module _ (setup : Setup) (m : Machine) (begun : Begun) (graph_of : Graph State ℕ) (sound : IsSoundProgram m.program)
@@ -52,23 +52,23 @@ module _ (setup : Setup) (m : Machine) (begun : Begun) (graph_of : Graph State �
   pub complete : ListsAll setup watch found
   complete order e ends =
       let seen = every_end_is_visited setup (watched setup m begun graph_of sound graph begins image harts)
-      (live setup m begun graph_of sound graph begins image harts)
-      (table setup m begun graph_of sound graph begins image harts)
+      (tables setup m begun graph_of sound graph begins image harts)
+      (good setup m begun graph_of sound graph begins image harts)
       (visited setup m begun graph_of sound graph begins image harts)
-      (enough setup m begun graph_of sound graph begins image harts) 0 (start setup) (paths_keep_code setup).0
+      (enough setup m begun graph_of sound graph begins image harts) 0 (start setup)
+      (starts_as_coded setup (tables setup m begun graph_of sound graph begins image harts))
       (start_settles setup m begun graph_of sound graph begins image harts) order ends.last ends.leads ends.is_end in
       let t = state_at setup m begun graph_of sound graph begins image harts seen.reached.place seen.state seen.reached.at in
       let over : IsEnd setup (state_of m t.0) =
       subst (IsEnd setup) (sym t.2)
       (end_alike setup (watched setup m begun graph_of sound graph begins image harts)
-      (live setup m begun graph_of sound graph begins image harts)
-      (table setup m begun graph_of sound graph begins image harts) ends.last seen.state seen.alike ends.is_end) in
+      (tables setup m begun graph_of sound graph begins image harts) ends.last seen.state seen.alike ends.is_end) in
       let has = outcomes.all seen.reached.place t.0
       (is_listed setup m begun graph_of sound graph begins image harts seen.reached.place t.0 t.1 over) t.1 in
       let same : ending_at m watch t.0 ≡ e =
       ap (ending_of m.program.harts watch) t.2
       ∙ (sym (alike_ends m.program.harts m.program.harts m.program.watched
-      (live setup m begun graph_of sound graph begins image harts) watch ends.last seen.state marked there seen.alike)
+      (tables setup m begun graph_of sound graph begins image harts) watch ends.last seen.state marked there seen.alike)
       ∙ (sym (same_harts ends.last) ∙ sym ends.is)) in
       told_outcome e (subst (HasEnding listed) same has)
 

@@ -10,7 +10,7 @@ use Rattle.std.proofs.lemmas.Option.{slice_get-map, get_or_from_slice_get}
 use Rattle.std.proofs.Math.Path.{fun_ext}
 use Rattle.smt_model.specs.{Setup.Setup, Plain.Plain, Plain.start, Bytes.number_at}
 use Rattle.smt_laws.proofs.Done.{some_one}
-use Rattle.outcome_laws.proofs.{Holding.paths_keep_code, Settling.each_memory_is_visited}
+use Rattle.outcome_laws.proofs.{Known.starts_as_coded, Seen.each_memory_is_visited}
 use Rattle.searches.specs.{Found.Found as Graph, Found.IsGraph}
 use Rattle.condensed_machine.specs.{Machine.Machine, Machine.IsSound as IsSoundProgram, Decoded.state_of}
 use Rattle.condensed_machine.specs.Steps.{Steps, HasBegun}
@@ -19,7 +19,7 @@ use Rattle.watched_outcomes.specs.declared.{watch.Watch.Watch, watch.WatchedByte
 use Rattle.watched_outcomes.specs.{Endings.word_in, Watching.bytes_of}
 use Rattle.outcomes.specs.{Collected.is_zero, Collected.is_unwritten, Found.IsUnwrittenTold, Found.AreUnwrittenTold}
 use Rattle.outcomes.specs.Told.{order_at}
-use Rattle.outcomes.proofs.Graph.{watched, live, visited, table, enough, start_settles, state_at, reached}
+use Rattle.outcomes.proofs.Graph.{watched, tables, visited, good, enough, start_settles, state_at, reached}
 
 -- ---- Tests of all members
 
@@ -82,15 +82,16 @@ module _ (setup : Setup) (m : Machine) (begun : Begun) (graph_of : Graph State �
   zero_throughout : (w : WatchedBytes) → is_unwritten m graph_of.states w ≡ true → IsUnwrittenTold setup w true
   zero_throughout w all order s leads =
       let seen = each_memory_is_visited setup (watched setup m begun graph_of sound graph begins image harts)
-      (live setup m begun graph_of sound graph begins image harts)
-      (table setup m begun graph_of sound graph begins image harts)
+      (tables setup m begun graph_of sound graph begins image harts)
+      (good setup m begun graph_of sound graph begins image harts)
       (visited setup m begun graph_of sound graph begins image harts)
-      (enough setup m begun graph_of sound graph begins image harts) 0 (start setup) (paths_keep_code setup).0
+      (enough setup m begun graph_of sound graph begins image harts) 0 (start setup)
+      (starts_as_coded setup (tables setup m begun graph_of sound graph begins image harts))
       (start_settles setup m begun graph_of sound graph begins image harts) order s leads in
       let t = state_at setup m begun graph_of sound graph begins image harts seen.reached.place seen.state seen.reached.at in
       let is : is_zero m w t.0 ≡ true = each_holds (is_zero m w) graph_of.states seen.reached.place t.0 all t.1 in
       let none : word_in (state_of m t.0) w ≡ 0 = grind (arith, nat_tests, is) in
-      ap (λ (b : ℕ → ℕ). number_at b w.address (bytes_of w.width)) (fun_ext seen.bytes)
+      ap (λ (b : ℕ → ℕ). number_at b w.address (bytes_of w.width)) (fun_ext (λ a. seen.bytes a refl))
       ∙ (ap (λ (p : Plain). word_in p w) (sym t.2) ∙ none)
 
   other_somewhere : (w : WatchedBytes) → is_unwritten m graph_of.states w ≡ false → IsUnwrittenTold setup w false

@@ -137,6 +137,24 @@ fn each_instruction_gives_its_number(rt: HostRuntime) -> Result<(), Fail> {
     Ok(())
 }
 
+static BOTH_RESERVED: [Row; 2] = [(0, (LR, WORD, 0), Some(0)), (1, (LR, WORD, 0), Some(0))];
+
+/// The SC of the hart whose reservation was ended fails, and the other's succeeds.
+static ONE_SUCCEEDS: [Row; 2] = [(1, (SC, WORD, 5), Some(1)), (0, (SC, WORD, 6), Some(0))];
+
+#[test]
+fn a_reservation_is_ended_for_one_hart(rt: HostRuntime) -> Result<(), Fail> {
+    let start = start_of(rt.alloc()).ok_or("refused")?;
+    let mut shared = SharedState::start(rt.alloc());
+    assert!(rt; !shared.has_reservation(0));
+    make(&rt, &start, &mut shared, &BOTH_RESERVED);
+    shared.end_reservation(1);
+    assert!(rt; shared.has_reservation(0) && !shared.has_reservation(1));
+    make(&rt, &start, &mut shared, &ONE_SUCCEEDS);
+    assert!(rt; !shared.has_reservation(0));
+    Ok(())
+}
+
 /// The word at an address, where it can be read.
 fn word(start: &Memory, shared: &SharedState, addr: u32) -> Option<u32>
     requires { IsStart start.now.image start.now }

@@ -27,6 +27,7 @@ mod image_tests;
 mod issue_queue_tests;
 #[cfg(test)]
 mod litmus_cycles_tests;
+mod litmus_runs_tests;
 #[cfg(test)]
 mod load_store_tests;
 #[cfg(test)]

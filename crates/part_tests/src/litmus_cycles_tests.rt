@@ -14,7 +14,7 @@ use std::alloc::{AllocError, Global};
 
 /// A test of the locations x and y: what each hart does, in words of three characters (`Rx5` reads x into x5,
 /// `Wx1` writes 1 to it, `Ax5` adds 1 to it by an AMO, `Lx5` and `Sx5` are LR and SC of 2), a bar between two
-/// harts; the numbers of registers and of locations at the end; and a line that is told, the third one.
+/// harts; the numbers of registers and of locations at the end; and the two lines that are told first.
 struct Row {
     harts: &'static str,
     registers: &'static [(u8, u8, u32)],
@@ -28,70 +28,68 @@ static ROWS: [Row; 9] = [
         harts: "Wx1Ry5|Wy1Rx5",
         registers: &[(0, 5, 0), (1, 5, 0)],
         locations: &[],
-        told: "\neach has a cycle\ncycle a po b fr c po d fr a\n",
+        told: "1 of 4 candidates fits the numbers; it has a cycle, all looked at\ncycle a po b fr c po d fr a\n",
     },
     // MP
     Row {
         harts: "Wx1Wy1|Ry5Rx6",
         registers: &[(1, 5, 1), (1, 6, 0)],
         locations: &[],
-        told: "\neach has a cycle\ncycle a po b rf c po d fr a\n",
+        told: "1 of 4 candidates fits the numbers; it has a cycle, all looked at\ncycle a po b rf c po d fr a\n",
     },
     // LB
     Row {
         harts: "Rx5Wy1|Ry5Wx1",
         registers: &[(0, 5, 1), (1, 5, 1)],
         locations: &[],
-        told: "\neach has a cycle\ncycle a po b rf c po d rf a\n",
+        told: "1 of 4 candidates fits the numbers; it has a cycle, all looked at\ncycle a po b rf c po d rf a\n",
     },
     // IRIW
     Row {
         harts: "Wx1|Wy1|Rx5Ry6|Ry5Rx6",
         registers: &[(2, 5, 1), (2, 6, 0), (3, 5, 1), (3, 6, 0)],
         locations: &[],
-        told: "\neach has a cycle\ncycle a rf c po d fr b rf e po f fr a\n",
+        told: "1 of 16 candidates fits the numbers; it has a cycle, all looked at\ncycle a rf c po d fr b rf e po f fr a\n",
     },
     // 2+2W
     Row {
         harts: "Wx1Wy2|Wy1Wx2",
         registers: &[],
         locations: &[(0, 1), (1, 1)],
-        told: "\neach has a cycle\ncycle a po b co c po d co a\n",
+        told: "1 of 4 candidates fits the numbers; it has a cycle, all looked at\ncycle a po b co c po d co a\n",
     },
     // CoRR
     Row {
         harts: "Wx1|Rx5Rx6",
         registers: &[(1, 5, 1), (1, 6, 0)],
         locations: &[],
-        told: "\neach has a cycle\ncycle a rf b po c fr a\n",
+        told: "none of 4 candidates fits the numbers; what has them breaks coherence, all looked at\ncycle a rf b po c fr a\n",
     },
     // SB, and what can come
     Row {
         harts: "Wx1Ry5|Wy1Rx5",
         registers: &[(0, 5, 1), (1, 5, 1)],
         locations: &[],
-        told: "\none has no cycle\norder a c b d\n",
+        told: "1 of 4 candidates fits the numbers; one has no cycle, all looked at\norder a c b d\n",
     },
     // two atomic additions that both find 0
     Row {
         harts: "Ax5|Ax5",
         registers: &[(0, 5, 0), (1, 5, 0)],
         locations: &[],
-        told: "\neach has a cycle\ncycle a co b fr a\n",
+        told: "none of 8 candidates fits the numbers; what has them and is coherent breaks atomicity, all looked at\na lies between what b reads and what it writes\n",
     },
     // a store-conditional over another hart's write
     Row {
         harts: "Lx5Sx6|Wx1",
         registers: &[(0, 5, 0), (0, 6, 0)],
         locations: &[(0, 2)],
-        told: "\neach is excluded by atomicity\nc lies between a and b\n",
+        told: "none of 6 candidates fits the numbers; what has them and is coherent breaks atomicity, all looked at\nc lies between a and b\n",
     },
 ];
 
 /// What is told of SB, whose state is forbidden.
-const STORE_BUFFERING: &str = "candidates 1
-looked at 3
-each has a cycle
+const STORE_BUFFERING: &str = "1 of 4 candidates fits the numbers; it has a cycle, all looked at
 cycle a po b fr c po d fr a
 a hart 0 W x 1 sw x1,0(x20)
 b hart 0 R y 0 lw x5,0(x21)
@@ -244,7 +242,7 @@ fn drawn(row: &Row, alloc: Global) -> Option<Vec<u8>> {
     let test = test_of(row, alloc).ok()?;
     let explanation = explain_forbidden(&test, alloc).ok()?;
     let mut text = Vec::new(alloc);
-    draw_explanation(&test, &explanation, &mut text).ok()?;
+    draw_explanation(&test, &explanation, &mut text, alloc).ok()?;
     Some(text)
 }
 

@@ -5,6 +5,8 @@ pub mod OfSchedule
 pub mod OfOutcomes
 pub mod OfWrittenOrders
 pub mod OfLitmus
+pub mod OfStateOrders
+pub mod OfShownStates
 pub mod Retired
 pub mod FirstSettling
 pub mod OfWrittenStories

@@ -2,6 +2,8 @@ pub mod Plain
 pub mod PlainRounds
 pub mod DrawnOrders
 pub mod Schedule
+pub mod StateOrders
+pub mod ShownStates
 pub mod Retiring
 pub mod Questions
 pub mod WrittenOrders

@@ -20,7 +20,7 @@ use Rattle.litmus_suites.specs.declared.verdict.{TestLine.TestLine, Verdict.Verd
 use Rattle.litmus_suites.specs.declared.verdict.Verdict.TheVariants.{Whole, NotComplete}
 use Rattle.litmus_suites.specs.declared.expectation.{Expectation.Expectation, Met.Met}
 use Rattle.litmus_suites.specs.declared.counts.Differences.{Differences}
-use Rattle.sim_inputs.specs.declared.line.LitmusCommand.{LitmusCommand}
+use Rattle.sim_inputs.specs.{declared.settings.Settings.Settings, declared.line.LitmusCommand.LitmusCommand}
 use Rattle.command_parts.specs.declared.refused.Refused.{Refused}
 use Rattle.command_parts.specs.declared.refused.Refused.TheVariants.{Memory, Output}
 use Rattle.command_parts.specs.Refused.{exit_status_of}
@@ -88,17 +88,18 @@ pub record IsSummed (text : List ℕ) (states : ℕ) (before after : LineTelling
   pub told : IsTold line before after old new
   pub is : status ≡ status_of line.verdict
 
-abbrev pub IsMade : List ℕ → LitmusCommand → Telling → Telling → Option (List ℕ) → Option (List ℕ) → ℕ → Type 0
-IsMade text command States after old new status = (after ≡ States)
-    × LitmusComesTo text command (λ bytes. Unit {0}) old new status
-IsMade text command (Lines before) after old new status = (left : LineTelling) × (after ≡ Lines left)
+abbrev pub IsMade : List ℕ → Settings → LitmusCommand → Telling → Telling → Option (List ℕ) → Option (List ℕ) → ℕ
+    → Type 0
+IsMade text settings command States after old new status = (after ≡ States)
+    × LitmusComesTo text settings command (λ bytes. Unit {0}) old new status
+IsMade text settings command (Lines before) after old new status = (left : LineTelling) × (after ≡ Lines left)
     × IsSummed text command.states before left old new status
 
--- It is refused, and then nothing is printed, unless the output failed.
-abbrev pub IsRefusedTest : LitmusCommand → List ℕ → Telling → Telling → Option (List ℕ) → Option (List ℕ) → Refused
-    → Type 0
-IsRefusedTest command text before after old new reason = IsLitmusRefusal text command reason
-    × ((reason ≡ Output) ⊎ ((after ≡ before) × (new ≡ old)))
+-- The output failed; or the test is refused, and then nothing is printed.
+abbrev pub IsRefusedTest : Settings → LitmusCommand → List ℕ → Telling → Telling → Option (List ℕ) → Option (List ℕ)
+    → Refused → Type 0
+IsRefusedTest settings command text before after old new reason = (reason ≡ Output)
+    ⊎ (IsLitmusRefusal text settings command reason × ((after ≡ before) × (new ≡ old)))
 
 -- One more test that is this beside the line that it takes.
 abbrev pub noted_line : Met → LineTelling → LineTelling
@@ -116,44 +117,45 @@ refused_more (Lines lines) = Lines (refused_line lines)
 
 -- What came of a test that a source has given, which stands so behind that: its exit status, what is printed, and how the
 -- source stands then. A refused one is told to the source.
-pub record HasMade (command : LitmusCommand) (text : List ℕ) (before after : Telling) (old new : Option (List ℕ))
-    (status : ℕ) : Type 0 where
+pub record HasMade (settings : Settings) (command : LitmusCommand) (text : List ℕ) (before after : Telling)
+    (old new : Option (List ℕ)) (status : ℕ) : Type 0 where
   pub printed : Option (List ℕ)
-  pub made : IsMade text command before after old printed status
+  pub made : IsMade text settings command before after old printed status
   pub flushed : Keeps printed new
 
-pub record HasRefused {S : Type 0} (hears : S → Refused → S → Type 0) (command : LitmusCommand) (text : List ℕ)
-    (given left : S) (before after : Telling) (old new : Option (List ℕ)) (status : ℕ) : Type 0 where
+pub record HasRefused {S : Type 0} (hears : S → Refused → S → Type 0) (settings : Settings) (command : LitmusCommand)
+    (text : List ℕ) (given left : S) (before after : Telling) (old new : Option (List ℕ)) (status : ℕ) : Type 0 where
   pub reason : Refused
-  pub refusal : IsLitmusRefusal text command reason
+  pub refusal : IsLitmusRefusal text settings command reason
   pub heard : hears given reason left
   pub counts : after ≡ refused_more before
   pub unprinted : new ≡ old
   pub is : status ≡ exit_status_of reason
 
-abbrev pub CameOf : {S : Type 0} → (S → Refused → S → Type 0) → LitmusCommand → GivenTest → S → S → Telling → Telling
-    → Option (List ℕ) → Option (List ℕ) → ℕ → Type 0
-CameOf hears command (Ok text) given left before after old new status =
-    ((left ≡ given) × HasMade command text before after old new status)
-    ⊎ HasRefused hears command text given left before after old new status
-CameOf hears command (Err why) given left before after old new status = (left ≡ given) × (after ≡ refused_more before)
+abbrev pub CameOf : {S : Type 0} → (S → Refused → S → Type 0) → Settings → LitmusCommand → GivenTest → S → S → Telling
+    → Telling → Option (List ℕ) → Option (List ℕ) → ℕ → Type 0
+CameOf hears settings command (Ok text) given left before after old new status =
+    ((left ≡ given) × HasMade settings command text before after old new status)
+    ⊎ HasRefused hears settings command text given left before after old new status
+CameOf hears settings command (Err why) given left before after old new status = (left ≡ given) × (after ≡ refused_more before)
     × (new ≡ old) × (status ≡ no_test_status why)
 
 -- The tests that a source gives, with the exit status of each, the newest first: what came of them all.
-abbrev pub HaveCome : {S : Type 0} → (S → Option GivenTest → S → Type 0) → (S → Refused → S → Type 0) → LitmusCommand
-    → List (GivenTest × ℕ) → S → S → Telling → Telling → Option (List ℕ) → Option (List ℕ) → Type 0
-HaveCome gives hears command [] source left before after old new = (left ≡ source) × (after ≡ before) × (new ≡ old)
-HaveCome {S} gives hears command (test ∷ past) source left before after old new = (earlier : S) × (given : S)
-    × (between : Telling) × (mid : Option (List ℕ)) × HaveCome gives hears command past source earlier before between old mid
-    × gives earlier (Some test.0) given × CameOf hears command test.0 given left between after mid new test.1
+abbrev pub HaveCome : {S : Type 0} → (S → Option GivenTest → S → Type 0) → (S → Refused → S → Type 0) → Settings
+    → LitmusCommand → List (GivenTest × ℕ) → S → S → Telling → Telling → Option (List ℕ) → Option (List ℕ) → Type 0
+HaveCome gives hears settings command [] source left before after old new = (left ≡ source) × (after ≡ before) × (new ≡ old)
+HaveCome {S} gives hears settings command (test ∷ past) source left before after old new = (earlier : S) × (given : S)
+    × (between : Telling) × (mid : Option (List ℕ))
+    × HaveCome gives hears settings command past source earlier before between old mid
+    × gives earlier (Some test.0) given × CameOf hears settings command test.0 given left between after mid new test.1
 
 -- All of them have come, and this is the worst exit status.
 pub record AllHaveCome {S : Type 0} (gives : S → Option GivenTest → S → Type 0) (hears : S → Refused → S → Type 0)
-    (command : LitmusCommand) (source left : S) (before after : Telling) (old new : Option (List ℕ)) (status : ℕ)
-    : Type 0 where
+    (settings : Settings) (command : LitmusCommand) (source left : S) (before after : Telling) (old new : Option (List ℕ))
+    (status : ℕ) : Type 0 where
   pub tests : List (GivenTest × ℕ)
   pub last : S
-  pub come : HaveCome gives hears command tests source last before after old new
+  pub come : HaveCome gives hears settings command tests source last before after old new
   pub ended : gives last None left
   pub worst_is : status ≡ worst (map (λ test. test.1) tests)
 
@@ -173,13 +175,14 @@ IsFinished (Lines lines) old new status = AreFinished lines old new status
 
 -- The whole of it.
 pub record SuiteComesTo {S : Type 0} (gives : S → Option GivenTest → S → Type 0) (hears : S → Refused → S → Type 0)
-    (command : LitmusCommand) (source left : S) (telling : Telling) (old new : Option (List ℕ)) (status : ℕ) : Type 0 where
+    (settings : Settings) (command : LitmusCommand) (source left : S) (telling : Telling) (old new : Option (List ℕ))
+    (status : ℕ) : Type 0 where
   pub after : Telling
   pub mid : Option (List ℕ)
   pub printed : Option (List ℕ)
   pub worst : ℕ
   pub last : ℕ
-  pub all : AllHaveCome gives hears command source left telling after old mid worst
+  pub all : AllHaveCome gives hears settings command source left telling after old mid worst
   pub finished : IsFinished after mid printed last
   pub flushed : Keeps printed new
   pub is : status ≡ worse worst last

@@ -119,7 +119,12 @@ pub(crate) fn picture_of(
 }
 
 /// The rows of the story of an order that the plain machine of an image makes.
-fn rows_of(image: &Image, harts: u8, order: &[u8], alloc: Global) -> Result<Vec<Row>, Refused>
+pub(crate) fn rows_of(
+    image: &Image,
+    harts: u8,
+    order: &[u8],
+    alloc: Global,
+) -> Result<Vec<Row>, Refused>
     ensures rows { IfOk result (λ rows. OfEachSetup image.now harts
         (λ setup. rows.items ≡ rows_told setup (reverse order.now))) }
     ensures few { IfOk result (λ rows. length rows.items ≤ most_rows) }

@@ -1,42 +1,42 @@
 //! The command `litmus`: every final state of a litmus test.
 
-ghost use Rattle.std.specs.Prelude.{◌≡◌, ◌⊎◌, ◌++◌, IfOk, IfErr, OnOk, is_some, true, false};
+ghost use Rattle.std.specs.Prelude.{◌≡◌, ◌⊎◌, ◌++◌, IfOk, IfErr, OnOk, None, is_some, true, false};
 ghost use Rattle.std.specs.Io.KnownBytes.{Appends};
-ghost use Rattle.elf_image.specs.Written.{file_of};
-ghost use Rattle.event_text.specs.{Sinking.HasPut};
 ghost use Rattle.litmus_tests.specs.WellFormed.{IsWellFormed};
-ghost use Rattle.litmus_reading.specs.Texts.{IsTextOf};
 ghost use Rattle.litmus_text.specs.States.{states_text};
 ghost use Rattle.outcome_text.specs.Listing.{ends_text};
 ghost use Rattle.searches.specs.declared.extent.Extent.TheVariants.{Whole};
 ghost use Rattle.sim_inputs.specs.Files.{written_for_test};
 ghost use Rattle.command_parts.specs.declared.refused.Refused.TheVariants.{Memory, Output};
-ghost use Rattle.plain_commands.specs.Litmus.{IsLitmusRefusal, LitmusComesTo, IsTestRefusal, TestComesTo};
-ghost use Rattle.plain_commands.specs.Litmus.{IsTextRefusal, IsPictureRefusal, IsWhy, IsTold};
+ghost use Rattle.event_text.specs.Sinking.{HasPut};
+ghost use Rattle.plain_commands.specs.Litmus.{IsLitmusRefusal, LitmusComesTo, IsStatesRefusal, IsTestRefusal, TestComesTo};
+ghost use Rattle.plain_commands.specs.{Litmus.IsStateTold, Litmus.IsWrittenRefusal, StateOrders.state_asked};
+ghost use Rattle.plain_commands.specs.Litmus.{IsTold};
 
 use crate::searching::find_shown;
+use crate::state_orders::put_state_order;
+use crate::test_parts::{put_image, settings_for, test_of};
+use crate::why::told_why;
 use actors::Gate;
-use command_parts::{Refused, put_text};
+use command_parts::Refused;
 use elf_image::Image;
-use explained_cycles::{draw_explanation, write_explanation};
-use litmus_cycles::{Explanation, Shown, explain_forbidden};
 use litmus_images::{harts_of, image_of, watch_of};
-use litmus_reading::{ReadingRefused, read_litmus};
 use litmus_tests::LitmusTest;
 use litmus_text::{holds_of_any, write_states};
 use outcome_text::{ends_text, write_incomplete};
 use outcomes::{Extent, Outcomes};
-use sim_inputs::LitmusCommand;
+use sim_inputs::{LitmusCommand, Settings};
 use std::alloc::{AllocError, Global};
-use std::io;
 use std::io::Write;
 use stress_runs::EndFiles;
 
-/// Reads a litmus test, and does what `perform_test` does with it. A text that is none is refused first.
+/// Reads a litmus test, and does what `perform_test` does with it, of these settings with the test's harts. A text that
+/// is none is refused first.
 #[inline(never)]
 pub fn perform_litmus<G: Gate, S: EndFiles, W: Write>(
     text: &[u8],
     command: &LitmusCommand<'_>,
+    settings: Settings,
     gate: &G,
     file: &mut S,
     out: &mut W,
@@ -44,9 +44,9 @@ pub fn perform_litmus<G: Gate, S: EndFiles, W: Write>(
 ) -> Result<u8, Refused>
     requires works { S.has_failed file.old ≡ false }
     requires finished { S.is_finished file.old ≡ true }
-    ensures refused { IfErr result (IsLitmusRefusal text.now command.now) }
+    ensures refused { IfErr result (IsLitmusRefusal text.now settings command.now) }
     ensures unprinted { IfErr result (λ reason. (reason ≡ Output) ⊎ (W.contents out.new ≡ W.contents out.old)) }
-    ensures ended { IfOk result (LitmusComesTo text.now command.now
+    ensures ended { IfOk result (LitmusComesTo text.now settings command.now
         (HasPut S.written S.has_failed file.old file.new) (W.contents out.old) (W.contents out.new)) }
     ensures unwanted { is_some (written_for_test command.now) ≡ false → file.new ≡ file.old }
     ensures unbroken { OnOk result (S.has_failed file.new ≡ false) }
@@ -54,39 +54,33 @@ pub fn perform_litmus<G: Gate, S: EndFiles, W: Write>(
     ensures unreported { S.has_failed file.new ≡ true
         → W.contents out.new ≡ W.contents out.old }
 {
-    let test = test_of(text, alloc)?;
-    match perform_test(&test, command, gate, file, out, alloc) {
+    let test = match test_of(text, alloc) {
+        Ok(test) => test,
+        Err(refused) => return Err(refused),
+    };
+    let settings = settings_for(settings, &test);
+    match perform_test(&test, command, &settings, gate, file, out, alloc) {
         Ok(status) => Ok(status),
         Err(refused) => Err(refused),
     }
 }
 
-/// The test that a text is.
-pub(crate) fn test_of(text: &[u8], alloc: Global) -> Result<LitmusTest, Refused>
-    ensures sound { IfOk result IsWellFormed }
-    ensures read { IfOk result (IsTextOf text.now) }
-    ensures refused { IfErr result (IsTextRefusal text.now) }
-{
-    match read_litmus(text, alloc) {
-        Ok(test) => Ok(test),
-        Err(ReadingRefused::Memory) => Err(Refused::Memory),
-        Err(ReadingRefused::At(place, fault, _)) => Err(Refused::Litmus(place, fault)),
-    }
-}
-
-/// Writes every final state of a litmus test, whether they are as it asks, whether its harts may wait for ever,
-/// and, where that is wanted, why its condition holds of none. The states are the outcomes of the test's image, for as many harts as it
-/// has. The image goes into `file` before the states are looked for, where it is wanted; a picture of why
-/// the condition holds of none, before anything is printed.
+/// Writes every final state of a litmus test, whether they are as it asks, whether its harts may wait for ever, and,
+/// where that is wanted, why its condition holds of none, or how it comes to hold of one. The states are the outcomes
+/// of the test's image, for as many harts as it has. The image goes into `file` before the states are looked for,
+/// where it is wanted; a picture of why or how, and what is wanted of the order of a state, before anything is
+/// printed.
 ///
-/// Answers the exit status: 0, or 3 where there are more states than were to be looked at; then only that
-/// is said. `NothingToDraw` is answered where a picture is wanted and the condition holds of a state, or no
-/// execution was found that has a cycle; then nothing is printed. `Output` is answered where `out` or `file`
-/// failed.
+/// Answers the exit status: 0, or 3 where there are more states than were to be looked at; then only that is said, and
+/// no order is written. `NothingToDraw` is answered where a picture is wanted and no execution was found that has a
+/// cycle, or the condition of a `forall` holds of each state, `LongStory` where the picture would have too many rows,
+/// and `NoOutcome`, or what `perform_schedule` refuses, of an order; then nothing is printed. `Output` is answered
+/// where `out` or `file` failed.
 #[inline(never)]
 pub fn perform_test<G: Gate, S: EndFiles, W: Write>(
     test: &LitmusTest,
     command: &LitmusCommand<'_>,
+    settings: &Settings,
     gate: &G,
     file: &mut S,
     out: &mut W,
@@ -95,9 +89,9 @@ pub fn perform_test<G: Gate, S: EndFiles, W: Write>(
     requires sound { IsWellFormed test.now }
     requires works { S.has_failed file.old ≡ false }
     requires finished { S.is_finished file.old ≡ true }
-    ensures refused { IfErr result (IsTestRefusal command.now) }
+    ensures refused { IfErr result (IsTestRefusal test.now settings.now command.now) }
     ensures unprinted { IfErr result (λ reason. (reason ≡ Output) ⊎ (W.contents out.new ≡ W.contents out.old)) }
-    ensures ended { IfOk result (TestComesTo test.now command.now
+    ensures ended { IfOk result (TestComesTo test.now settings.now command.now
         (HasPut S.written S.has_failed file.old file.new) (W.contents out.old) (W.contents out.new)) }
     ensures unwanted { is_some (written_for_test command.now) ≡ false → file.new ≡ file.old }
     ensures unbroken { OnOk result (S.has_failed file.new ≡ false) }
@@ -108,7 +102,10 @@ pub fn perform_test<G: Gate, S: EndFiles, W: Write>(
     let Ok(image) = image_of(test, alloc) else {
         return Err(Refused::Memory);
     };
-    put_image(&image, command, file, alloc)?;
+    match put_image(test, &image, command, file, alloc) {
+        Ok(()) => {}
+        Err(refused) => return Err(refused),
+    }
     let watch = watch_of(test);
     match find_shown(
         &image,
@@ -120,7 +117,9 @@ pub fn perform_test<G: Gate, S: EndFiles, W: Write>(
         alloc,
     ) {
         Ok(outcomes) => match outcomes.extent() {
-            Extent::Whole => draw_and_print(test, &outcomes, command, file, out, alloc),
+            Extent::Whole => write_and_print(
+                test, &image, settings, &outcomes, command, file, out, alloc,
+            ),
             Extent::Beyond | Extent::First => match write_incomplete(command.states, out) {
                 Ok(()) => Ok(3),
                 Err(_) => Err(Refused::Output),
@@ -131,37 +130,11 @@ pub fn perform_test<G: Gate, S: EndFiles, W: Write>(
     }
 }
 
-/// Puts the ELF file of the image into the file, where it is wanted.
-fn put_image<S: EndFiles>(
-    image: &Image,
-    command: &LitmusCommand<'_>,
-    file: &mut S,
-    alloc: Global,
-) -> Result<(), Refused>
-    requires works { S.has_failed file.old ≡ false }
-    requires finished { S.is_finished file.old ≡ true }
-    ensures kept { OnOk result (is_some command.now.image ≡ true
-        → HasPut S.written S.has_failed file.old file.new (file_of image.now)) }
-    ensures refused { IfErr result (IsTestRefusal command.now) }
-    ensures unwanted { is_some command.now.image ≡ false → file.new ≡ file.old }
-    ensures unbroken { OnOk result (S.has_failed file.new ≡ false) }
-    ensures finished { OnOk result (S.is_finished file.new ≡ true) }
-{
-    if command.image.is_none() {
-        return Ok(());
-    }
-    match elf_image::write(alloc, image) {
-        Ok(bytes) => {
-            put_text(bytes.as_slice(), file)?;
-            Ok(())
-        }
-        Err(AllocError) => Err(Refused::Memory),
-    }
-}
-
-/// Draws why the condition holds of no state, where that is wanted, and prints what was found.
-fn draw_and_print<S: EndFiles, W: Write>(
+/// Writes the order of a state, where that is wanted, and does what `draw_and_print` does.
+fn write_and_print<S: EndFiles, W: Write>(
     test: &LitmusTest,
+    image: &Image,
+    settings: &Settings,
     outcomes: &Outcomes,
     command: &LitmusCommand<'_>,
     file: &mut S,
@@ -172,10 +145,49 @@ fn draw_and_print<S: EndFiles, W: Write>(
     requires whole { outcomes.now.extent ≡ Whole }
     requires works { S.has_failed file.old ≡ false }
     requires finished { S.is_finished file.old ≡ true }
-    ensures printed { OnOk result (IsTold test.now command.now outcomes.now
+    ensures printed { OnOk result (IsTold settings.now image.now test.now command.now outcomes.now
+        (W.contents out.old) (W.contents out.new)) }
+    ensures written { OnOk result (IsStateTold settings.now image.now test.now command.now
+        (HasPut S.written S.has_failed file.old file.new) outcomes.now.listed) }
+    ensures zero { IfOk result (λ status. status ≡ 0) }
+    ensures refused { IfErr result
+        (IsWrittenRefusal settings.now image.now test.now command.now outcomes.now.listed) }
+    ensures unprinted { IfErr result (λ reason. (reason ≡ Output) ⊎ (W.contents out.new ≡ W.contents out.old)) }
+    ensures unwanted { is_some command.now.svg ≡ false → state_asked command.now ≡ None → file.new ≡ file.old }
+    ensures unbroken { OnOk result (S.has_failed file.new ≡ false) }
+    ensures finished { OnOk result (S.is_finished file.new ≡ true) }
+    ensures unreported { S.has_failed file.new ≡ true
+        → W.contents out.new ≡ W.contents out.old }
+{
+    match put_state_order(test, image, settings, outcomes, command, file, alloc) {
+        Ok(()) => {}
+        Err(refused) => return Err(refused),
+    }
+    match draw_and_print(test, image, settings, outcomes, command, file, out, alloc) {
+        Ok(status) => Ok(status),
+        Err(refused) => Err(refused),
+    }
+}
+
+/// Draws why the condition holds of no state, or how it holds of one, where that is wanted, and prints what was found.
+fn draw_and_print<S: EndFiles, W: Write>(
+    test: &LitmusTest,
+    image: &Image,
+    settings: &Settings,
+    outcomes: &Outcomes,
+    command: &LitmusCommand<'_>,
+    file: &mut S,
+    out: &mut W,
+    alloc: Global,
+) -> Result<u8, Refused>
+    requires sound { IsWellFormed test.now }
+    requires whole { outcomes.now.extent ≡ Whole }
+    requires works { S.has_failed file.old ≡ false }
+    requires finished { S.is_finished file.old ≡ true }
+    ensures printed { OnOk result (IsTold settings.now image.now test.now command.now outcomes.now
         (W.contents out.old) (W.contents out.new)) }
     ensures zero { IfOk result (λ status. status ≡ 0) }
-    ensures refused { IfErr result (IsTestRefusal command.now) }
+    ensures refused { IfErr result (IsStatesRefusal command.now) }
     ensures unprinted { IfErr result (λ reason. (reason ≡ Output) ⊎ (W.contents out.new ≡ W.contents out.old)) }
     ensures unwanted { is_some command.now.svg ≡ false → file.new ≡ file.old }
     ensures unbroken { OnOk result (S.has_failed file.new ≡ false) }
@@ -185,7 +197,9 @@ fn draw_and_print<S: EndFiles, W: Write>(
 {
     let can_come = holds_of_any(test, outcomes);
     let is_stuck = can_be_stuck(outcomes, alloc)?;
-    let why = explained(test, can_come, command, file, alloc)?;
+    let why = told_why(
+        test, image, settings, outcomes, can_come, command, file, alloc,
+    )?;
     print(test, outcomes, is_stuck, why.as_slice(), out)
 }
 
@@ -224,129 +238,5 @@ fn print<W: Write>(
     match out.write_all(why) {
         Ok(()) => Ok(0),
         Err(_) => Err(Refused::Output),
-    }
-}
-
-/// What is said of why the condition holds of no state, where that is wanted, and where a picture is, that
-/// drawn into the file.
-fn explained<S: EndFiles>(
-    test: &LitmusTest,
-    can_come: bool,
-    command: &LitmusCommand<'_>,
-    file: &mut S,
-    alloc: Global,
-) -> Result<Vec<u8>, Refused>
-    requires sound { IsWellFormed test.now }
-    requires works { S.has_failed file.old ≡ false }
-    requires finished { S.is_finished file.old ≡ true }
-    ensures why { IfOk result (λ why. IsWhy command.now.why can_come why.items) }
-    ensures refused { IfErr result (IsTestRefusal command.now) }
-    ensures unwanted { is_some command.now.svg ≡ false → file.new ≡ file.old }
-    ensures unbroken { OnOk result (S.has_failed file.new ≡ false) }
-    ensures finished { OnOk result (S.is_finished file.new ≡ true) }
-{
-    let explanation = explanation_of(test, can_come, command, alloc)?;
-    let why = why_text(test, can_come, &explanation, command.why, alloc)?;
-    put_picture(test, &explanation, command, file, alloc)?;
-    Ok(why)
-}
-
-/// The explanation, where one is wanted and the condition holds of no state.
-fn explanation_of(
-    test: &LitmusTest,
-    can_come: bool,
-    command: &LitmusCommand<'_>,
-    alloc: Global,
-) -> Result<Option<Explanation>, Refused>
-    requires { IsWellFormed test.now }
-    ensures { IfErr result (λ reason. reason ≡ Memory) }
-{
-    if can_come || !(command.why || command.svg.is_some()) {
-        return Ok(None);
-    }
-    match explain_forbidden(test, alloc) {
-        Ok(explanation) => Ok(Some(explanation)),
-        Err(AllocError) => Err(Refused::Memory),
-    }
-}
-
-/// The lines of an explanation, or that the condition holds of a state; nothing where none is wanted.
-fn why_text(
-    test: &LitmusTest,
-    can_come: bool,
-    explanation: &Option<Explanation>,
-    wanted: bool,
-    alloc: Global,
-) -> Result<Vec<u8>, Refused>
-    ensures why { IfOk result (λ why. IsWhy wanted can_come why.items) }
-    ensures refused { IfErr result (λ reason. reason ≡ Memory) }
-{
-    let mut text = Vec::new(alloc);
-    if !wanted {
-        return Ok(text);
-    }
-    let written = if can_come {
-        text.write_all(b"why: the condition holds of a state\n")
-    } else {
-        write_why(test, explanation, &mut text)
-    };
-    match written {
-        Ok(()) => Ok(text),
-        Err(_) => Err(Refused::Memory),
-    }
-}
-
-fn write_why<W: Write>(
-    test: &LitmusTest,
-    explanation: &Option<Explanation>,
-    out: &mut W,
-) -> io::Result<()> {
-    match explanation {
-        Some(explanation) => write_explanation(test, explanation, out),
-        None => Ok(()),
-    }
-}
-
-/// Draws an explanation into the file, where a picture is wanted.
-fn put_picture<S: EndFiles>(
-    test: &LitmusTest,
-    explanation: &Option<Explanation>,
-    command: &LitmusCommand<'_>,
-    file: &mut S,
-    alloc: Global,
-) -> Result<(), Refused>
-    requires works { S.has_failed file.old ≡ false }
-    requires finished { S.is_finished file.old ≡ true }
-    ensures refused { IfErr result (IsTestRefusal command.now) }
-    ensures unwanted { is_some command.now.svg ≡ false → file.new ≡ file.old }
-    ensures unbroken { OnOk result (S.has_failed file.new ≡ false) }
-    ensures finished { OnOk result (S.is_finished file.new ≡ true) }
-{
-    if command.svg.is_none() {
-        return Ok(());
-    }
-    let picture = drawn(test, explanation, alloc)?;
-    put_text(picture.as_slice(), file)?;
-    Ok(())
-}
-
-/// The picture of an explanation; refused where there is nothing to draw.
-fn drawn(
-    test: &LitmusTest,
-    explanation: &Option<Explanation>,
-    alloc: Global,
-) -> Result<Vec<u8>, Refused>
-    ensures { IfErr result IsPictureRefusal }
-{
-    let Some(explanation) = explanation else {
-        return Err(Refused::NothingToDraw);
-    };
-    if matches!(explanation.shown, Shown::Nothing) {
-        return Err(Refused::NothingToDraw);
-    }
-    let mut picture = Vec::new(alloc);
-    match draw_explanation(test, explanation, &mut picture) {
-        Ok(()) => Ok(picture),
-        Err(_) => Err(Refused::Memory),
     }
 }

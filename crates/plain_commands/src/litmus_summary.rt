@@ -9,8 +9,9 @@ ghost use Rattle.command_parts.specs.declared.refused.Refused.TheVariants.{Memor
 ghost use Rattle.plain_commands.specs.Litmus.{IsTextRefusal};
 ghost use Rattle.plain_commands.specs.Suite.{IsSummaryOf, Says, said_of};
 
-use crate::litmus::{can_be_stuck, test_of};
+use crate::litmus::can_be_stuck;
 use crate::searching::find_shown;
+use crate::test_parts::test_of;
 use actors::Gate;
 use command_parts::Refused;
 use litmus_images::{harts_of, image_of, watch_of};

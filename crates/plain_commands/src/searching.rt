@@ -24,7 +24,7 @@ impl<G: Gate> Onlooker for Shown<'_, G> {
 }
 
 /// Finds outcomes of a program, as `find_outcomes` does; `gate` is shown how far it is.
-pub(crate) fn find_shown<G: Gate, U: Until>(
+pub fn find_shown<G: Gate, U: Until>(
     image: &Image,
     harts: u8,
     watch: &Watch,

@@ -9,29 +9,30 @@ use crate::test_source::TestSource;
 use actors::Gate;
 use command_parts::Refused;
 use litmus_suites::{NoTest, worse};
-use sim_inputs::LitmusCommand;
+use sim_inputs::{LitmusCommand, Settings};
 use std::alloc::Global;
 use std::io::Write;
 
-/// Makes all tests of a source, one behind the other, and prints of each what `telling` wants, and behind them what that
-/// adds. A test that is refused is told to the source, and the others are made. One test is held at a time, and what is
-/// printed of it is flushed.
+/// Makes all tests of a source, one behind the other, of these settings with each test's harts, and prints of each what
+/// `telling` wants, and behind them what that adds. A test that is refused is told to the source, and the others are
+/// made. One test is held at a time, and what is printed of it is flushed.
 ///
-/// Answers the worst exit status of the tests, and of what comes behind them. `Output` is answered where `out` failed; then
-/// no other test is made.
+/// Answers the worst exit status of the tests, and of what comes behind them. `Output` is answered where `out` failed;
+/// then no other test is made.
 pub fn perform_suite<T: TestSource, G: Gate, W: Write>(
     source: &mut T,
     command: &LitmusCommand<'_>,
     telling: &mut Telling<'_>,
+    settings: &Settings,
     gate: &G,
     out: &mut W,
     alloc: Global,
 ) -> Result<u8, Refused>
-    ensures comes { IfOk result (SuiteComesTo T.gives T.hears command.now source.old source.new telling.old
+    ensures comes { IfOk result (SuiteComesTo T.gives T.hears settings.now command.now source.old source.new telling.old
         (W.contents out.old) (W.contents out.new)) }
     ensures refused { IfErr result IsSuiteRefusal }
 {
-    let status = match perform_tests(source, command, telling, gate, out, alloc) {
+    let status = match perform_tests(source, command, telling, settings, gate, out, alloc) {
         Ok(status) => status,
         Err(refused) => return Err(refused),
     };
@@ -50,12 +51,13 @@ fn perform_tests<T: TestSource, G: Gate, W: Write>(
     source: &mut T,
     command: &LitmusCommand<'_>,
     telling: &mut Telling<'_>,
+    settings: &Settings,
     gate: &G,
     out: &mut W,
     alloc: Global,
 ) -> Result<u8, Refused>
-    ensures comes { IfOk result (AllHaveCome T.gives T.hears command.now source.old source.new telling.old telling.new
-        (W.contents out.old) (W.contents out.new)) }
+    ensures comes { IfOk result (AllHaveCome T.gives T.hears settings.now command.now source.old source.new
+        telling.old telling.new (W.contents out.old) (W.contents out.new)) }
     ensures refused { IfErr result IsSuiteRefusal }
 {
     let mut status = 0;
@@ -64,7 +66,7 @@ fn perform_tests<T: TestSource, G: Gate, W: Write>(
         let Some(given) = source.next() else {
             return Ok(status);
         };
-        match perform_given(given, source, command, telling, gate, out, alloc) {
+        match perform_given(given, source, command, telling, settings, gate, out, alloc) {
             Ok(came) => status = worse(status, came),
             Err(refused) => return Err(refused),
         }
@@ -78,16 +80,26 @@ fn perform_given<T: TestSource, G: Gate, W: Write>(
     source: &mut T,
     command: &LitmusCommand<'_>,
     telling: &mut Telling<'_>,
+    settings: &Settings,
     gate: &G,
     out: &mut W,
     alloc: Global,
 ) -> Result<u8, Refused>
-    ensures comes { IfOk result (CameOf T.hears command.now (text_of given) source.old source.new telling.old telling.new
-        (W.contents out.old) (W.contents out.new)) }
+    ensures comes { IfOk result (CameOf T.hears settings.now command.now (text_of given) source.old source.new
+        telling.old telling.new (W.contents out.old) (W.contents out.new)) }
     ensures refused { IfErr result IsSuiteRefusal }
 {
     match given {
-        Ok(text) => perform_text(text.as_slice(), source, command, telling, gate, out, alloc),
+        Ok(text) => perform_text(
+            text.as_slice(),
+            source,
+            command,
+            telling,
+            settings,
+            gate,
+            out,
+            alloc,
+        ),
         Err(why) => {
             telling.count_refused();
             Ok(why.exit_status())
@@ -101,15 +113,16 @@ fn perform_text<T: TestSource, G: Gate, W: Write>(
     source: &mut T,
     command: &LitmusCommand<'_>,
     telling: &mut Telling<'_>,
+    settings: &Settings,
     gate: &G,
     out: &mut W,
     alloc: Global,
 ) -> Result<u8, Refused>
-    ensures comes { IfOk result (CameOf T.hears command.now (Ok text.now) source.old source.new telling.old telling.new
-        (W.contents out.old) (W.contents out.new)) }
+    ensures comes { IfOk result (CameOf T.hears settings.now command.now (Ok text.now) source.old source.new
+        telling.old telling.new (W.contents out.old) (W.contents out.new)) }
     ensures refused { IfErr result IsSuiteRefusal }
 {
-    match telling.make(text, command, gate, out, alloc) {
+    match telling.make(text, command, settings, gate, out, alloc) {
         Ok(status) => match out.flush() {
             Ok(()) => Ok(status),
             Err(_) => Err(Refused::Output),

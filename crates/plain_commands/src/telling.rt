@@ -15,7 +15,7 @@ use actors::Gate;
 use command_parts::Refused;
 use event_text::Over;
 use litmus_suites::{Counts, Differences, Expectation, Met, TestLine, Verdict};
-use sim_inputs::LitmusCommand;
+use sim_inputs::{LitmusCommand, Settings};
 use std::alloc::Global;
 use std::io::Write;
 
@@ -38,26 +38,36 @@ pub enum LineTelling<'a> {
 }
 
 impl Telling<'_> {
-    /// Makes the test that a text is, and prints what is wanted of it. Answers its exit status: 0, or 3 where it has more
-    /// states than were to be looked at. Where it is refused, and the output didn't fail, nothing is printed.
+    /// Makes the test that a text is, of these settings with its harts, and prints what is wanted of it. Answers its exit
+    /// status: 0, or 3 where it has more states than were to be looked at. Where it is refused, and the output didn't
+    /// fail, nothing is printed.
     pub(crate) fn make<G: Gate, W: Write>(
         &mut self,
         text: &[u8],
         command: &LitmusCommand<'_>,
+        settings: &Settings,
         gate: &G,
         out: &mut W,
         alloc: Global,
     ) -> Result<u8, Refused>
         ensures made { IfOk result
-            (IsMade text.now command.now self.old self.new (W.contents out.old) (W.contents out.new)) }
-        ensures refused { IfErr result (IsRefusedTest command.now text.now self.old self.new (W.contents out.old)
-            (W.contents out.new)) }
+            (IsMade text.now settings.now command.now self.old self.new (W.contents out.old) (W.contents out.new)) }
+        ensures refused { IfErr result (IsRefusedTest settings.now command.now text.now self.old self.new
+            (W.contents out.old) (W.contents out.new)) }
     {
         match self {
             Telling::States => {
                 // No file is written of one of several tests.
                 let mut none = Over::new(Vec::new(alloc));
-                perform_litmus(text, command, gate, &mut none, out, alloc)
+                perform_litmus(
+                    text,
+                    command,
+                    settings.copied(),
+                    gate,
+                    &mut none,
+                    out,
+                    alloc,
+                )
             }
             Telling::Lines(lines) => lines.make(text, command.states, gate, out, alloc),
         }
@@ -86,7 +96,8 @@ impl Telling<'_> {
 }
 
 impl LineTelling<'_> {
-    /// Makes the test that a text is, of which so many states are looked at the most, and prints what is wanted of its line.
+    /// Makes the test that a text is, of which so many states are looked at the most, and prints what is wanted of its
+    /// line.
     fn make<G: Gate, W: Write>(
         &mut self,
         text: &[u8],

@@ -1,5 +1,5 @@
 -- What comes of the program's words. (This project's own choice.)
-use Rattle.std.specs.Prelude.{◌≡◌, ◌⊎◌, ℕ, Bool, false, ◌&&◌, List, [], Option, Some, None, IfNone, IfSome}
+use Rattle.std.specs.Prelude.{◌≡◌, ◌⊎◌, ℕ, Bool, false, ◌&&◌, IsTrue, List, [], Option, Some, None, IfNone}
 use Rattle.std.specs.Prelude.{Result, Ok, Err, Vec, is_some, if◌then◌else◌}
 use Rattle.std.specs.Borrow.{Bor}
 use Rattle.sim_inputs.specs.{declared.line.Line.Line, declared.line.WordsRefused.WordsRefused}
@@ -19,7 +19,10 @@ use Rattle.command_parts.specs.{declared.refused.Refused.Refused}
 use Rattle.command_parts.specs.{Inputs.Read, Refused.exit_status_of}
 use Rattle.commands.specs.{Perform.IsRefusal}
 use Rattle.program_io.specs.{declared.files.ReadRefused.ReadRefused, Files.unread_for}
-use Rattle.program_io.specs.Words.{IsWordsStatus}
+use Rattle.program_io.specs.Words.{IsWordsStatus, HaveTold}
+use Rattle.program_io.specs.declared.performing.Program.{Program}
+use Rattle.commands.specs.{Perform.LineComesTo, Typed.StepIsTyped, Suites.SuiteLineComesTo}
+use Rattle.commands.specs.Written.{ToWrite, TraceOf, IsWritten}
 
 -- A file as it was read, of the vector that holds its bytes.
 abbrev pub read_of : {A : Type 0} → Result (Vec ℕ A) ReadRefused → Read
@@ -46,29 +49,61 @@ abbrev pub uncommented_for : Command → Read → Read
 uncommented_for command (Ok text) = Ok (if reads_words command then uncommented text else text)
 uncommented_for command (Err why) = Err why
 
--- A line was performed with this exit status: where that says that there is no report, the reason is
--- one of this line, with its files as they were read, a script or an order without its comments.
-pub record HasPerformed (at_terminal : Bool) (line : Line) (status : ℕ) : Type 0 where
+-- What a line puts into its files: of what a file takes nothing is known, but that none failed.
+abbrev pub HasPutInto : {F : Type 0} → (F → Bool) → F → F → ToWrite → Type 0
+HasPutInto has_failed before after = IsWritten (λ files end part later. Unit {0}) (λ files. None) has_failed before after
+
+-- What was printed, and put into files that stood so before, is what the command comes to, of its files as they were read.
+pub record LineHasCome {F : Type 0} (has_failed : F → Bool) (before : F) (harts : Option ℕ) (command : Command)
+    (config program second lines : Read) (old new : Option (List ℕ)) (status : ℕ) : Type 0 where
+  pub after : F
+  pub comes : LineComesTo harts command config program second lines (HasPutInto has_failed before after) old new status
+
+-- So it is of `step` whose script is typed: of what was typed, as far as it is known.
+pub record TypedHasCome {F P : Type 0} (has_failed : F → Bool) (predicts : P → ℕ → ℕ → ℕ → ℕ → P → Type 0) (predictor : P)
+    (before : F) (harts : Option ℕ) (step : StepCommand) (config program lines : Read) (old new : Option (List ℕ))
+    (status : ℕ) : Type 0 where
+  pub input : Option (List ℕ)
+  pub after : F
+  pub comes : StepIsTyped predicts predictor harts step config program lines input
+      (λ core. HasPutInto has_failed before after (TraceOf (is_some step.trace) core)) old new status
+
+-- A line was performed with this exit status, and this was on the output before and behind it: where the status says how
+-- the harts stand, that is what the line comes to; where it says that there is no report, the reason is one of this line.
+-- Both with its files as they were read, a script or an order without its comments.
+pub record HasPerformed {F S G P : Type 0} (has_failed : F → Bool) (predicts : P → ℕ → ℕ → ℕ → ℕ → P → Type 0)
+    (by : Program S G P) (line : Line) (old new : Option (List ℕ)) (status : ℕ) : Type 0 where
   pub config : Read
   pub program : Read
   pub second : Read
   pub lines : Read
   pub has_config : IsReadAs (files_of line).config config
   pub has_program : IsReadAs (files_of line).program program
-  pub has_second : IsReadAs (second_of at_terminal line) second
+  pub has_second : IsReadAs (second_of by.at_terminal line) second
   pub has_lines : IsReadAs (files_of line).lines lines
+  pub files : F
+  pub comes : typed_step by.at_terminal line.command ≡ None → IsTrue (says_harts status)
+      → LineHasCome has_failed files line.harts line.command config program (uncommented_for line.command second)
+      lines old new status
+  pub typed : (step : StepCommand) → typed_step by.at_terminal line.command ≡ Some step → IsTrue (says_harts status)
+      → TypedHasCome has_failed predicts by.predict files line.harts step config program lines old new status
   pub refused : says_harts status ≡ false → (reason : Refused)
       × (exit_status_of reason ≡ status)
       × IsRefusal line.harts line.command config program (uncommented_for line.command second) lines reason
 
--- A line of litmus tests, which may be several, was performed with this exit status, one of the program's. Where it has
--- a reason, that is one of this line, with its other files as they were read. That a status has a reason isn't said: a
--- test that is refused is none of the line's.
-abbrev pub IsRefusedSuite : LitmusCommand → Read → Read → ℕ → Option SuiteRefused → Type 0
-IsRefusedSuite litmus config summary status why = IfSome why (λ reason. (suite_status_of reason ≡ status)
-    × IsSuiteLineRefusal litmus config summary reason)
+-- What a line of litmus tests came to, which may be several, with its other files as they were read: the line itself was
+-- refused, or what was printed is what the tests come to, of some texts: those that were read. (Of where they come from
+-- nothing is said.)
+abbrev pub SuiteHasCome : LitmusCommand → Read → Read → Option (List ℕ) → Option (List ℕ) → ℕ → Type 0
+SuiteHasCome litmus config summary old new status = SuiteLineComesTo {S = Unit {0}} (λ source given after. Unit {0})
+    (λ source refused after. Unit {0}) litmus config summary tt tt old new status
 
-pub record HasTested (line : Line) (status : ℕ) : Type 0 where
+pub record SuiteIsRefused (litmus : LitmusCommand) (config summary : Read) (status : ℕ) : Type 0 where
+  pub why : SuiteRefused
+  pub has_status : suite_status_of why ≡ status
+  pub refused : IsSuiteLineRefusal litmus config summary why
+
+pub record HasTested (line : Line) (old new : Option (List ℕ)) (status : ℕ) : Type 0 where
   pub litmus : LitmusCommand
   pub is_litmus : line.command ≡ Litmus litmus
   pub config : Read
@@ -76,21 +111,25 @@ pub record HasTested (line : Line) (status : ℕ) : Type 0 where
   pub has_config : IsReadAs (files_of line).config config
   pub has_summary : IsReadAs (files_of line).second summary
   pub known : IsKnown status
-  pub why : Option SuiteRefused
-  pub refused : IsRefusedSuite litmus config summary status why
+  pub ended : SuiteIsRefused litmus config summary status
+      ⊎ SuiteHasCome litmus config summary old new status
 
 -- Words asked for a line, and it was performed with this exit status.
-pub record HavePerformed (at_terminal : Bool) (words : List (List ℕ)) (status : ℕ) : Type 0 where
+pub record HavePerformed {F S G P : Type 0} (has_failed : F → Bool) (predicts : P → ℕ → ℕ → ℕ → ℕ → P → Type 0)
+    (by : Program S G P) (words : List (List ℕ)) (old new : Option (List ℕ)) (status : ℕ) : Type 0 where
   pub line : Line
   pub asked : Asks words line
-  pub performed : HasPerformed at_terminal line status ⊎ HasTested line status
+  pub performed : HasPerformed has_failed predicts by line old new status ⊎ HasTested line old new status
 
--- Words were refused with this exit status.
-pub record AreRefused (words : List (List ℕ)) (status : ℕ) : Type 0 where
+-- Words were refused with this exit status, and help and the version are printed.
+pub record AreRefused (words : List (List ℕ)) (old new : Option (List ℕ)) (status : ℕ) : Type 0 where
   pub why : WordsRefused
   pub refused : AreWordsRefusedFor words why
   pub has_status : IsWordsStatus why status
+  pub told : HaveTold why old new status
 
 -- One of the two came of words with this exit status.
-abbrev pub HaveEnded : Bool → List (List ℕ) → ℕ → Type 0
-HaveEnded at_terminal words status = HavePerformed at_terminal words status ⊎ AreRefused words status
+abbrev pub HaveEnded : {F S G P : Type 0} → (F → Bool) → (P → ℕ → ℕ → ℕ → ℕ → P → Type 0) → Program S G P
+    → List (List ℕ) → Option (List ℕ) → Option (List ℕ) → ℕ → Type 0
+HaveEnded has_failed predicts by words old new status =
+    HavePerformed has_failed predicts by words old new status ⊎ AreRefused words old new status

@@ -1,5 +1,6 @@
 -- What becomes of words that ask for no line. (This project's own choice.)
-use Rattle.std.specs.Prelude.{◌≡◌, ◌⊎◌, ℕ}
+use Rattle.std.specs.Prelude.{◌≡◌, ◌⊎◌, ℕ, List, Option, string_bytes}
+use Rattle.std.specs.Io.KnownBytes.{Appends}
 use Rattle.std.specs.{declared.io.ErrorKind.ErrorKind}
 use Rattle.std.specs.{declared.io.ErrorKind.TheVariants.OutOfMemory}
 use Rattle.sim_inputs.specs.{declared.line.WordsRefused.WordsRefused}
@@ -16,3 +17,10 @@ IsWordsStatus (words.Help text) status = (status ≡ 0) ⊎ (status ≡ 5)
 IsWordsStatus (words.Version text) status = (status ≡ 0) ⊎ (status ≡ 5)
 IsWordsStatus words.Refused status = status ≡ 2
 IsWordsStatus words.Memory status = status ≡ 5
+
+-- What was printed of such words: help or the version behind status 0; and nothing where the words are refused.
+abbrev pub HaveTold : WordsRefused → Option (List ℕ) → Option (List ℕ) → ℕ → Type 0
+HaveTold (words.Help text) old new status = status ≡ 0 → Appends old new (string_bytes text)
+HaveTold (words.Version text) old new status = status ≡ 0 → Appends old new (string_bytes text)
+HaveTold words.Refused old new status = new ≡ old
+HaveTold words.Memory old new status = new ≡ old

@@ -31,7 +31,7 @@ mod words;
 
 pub use files::{ReadRefused, read_file, read_to_end};
 pub use output_files::{OutputFiles, Places};
-pub use performing::{Program, perform_words};
+pub use performing::{Performed, Program, perform_words, refuse_unopened};
 pub use progress::Progress;
 pub use read_files::ReadFiles;
 pub use streams::{HeldStreams, hold_closed_streams};

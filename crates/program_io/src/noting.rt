@@ -23,6 +23,13 @@ impl<W> Noting<W> {
         }
     }
 
+    /// What it writes to.
+    pub(crate) fn into_inner(self) -> W
+        ensures { result ≡ self.writer }
+    {
+        self.writer
+    }
+
     /// Why it failed last, if it did.
     pub(crate) fn failure(&self) -> Option<ErrorKind>
         ensures { result ≡ self.now.failure }

@@ -1,10 +1,9 @@
 //! All that the program does with its words.
 
-ghost use Rattle.std.specs.Prelude.{◌≡◌, ◌⊎◌, [], IsTrue, IfErr, IfOk, Ok, Some, false, is_some, not, true};
+ghost use Rattle.std.specs.Prelude.{◌≡◌, [], IsTrue, IfErr, IfOk, Ok, Some, false, is_some, not, true};
 ghost use Rattle.std.specs.Prelude.{map, string_bytes};
 ghost use Rattle.std.specs.IoError.{error_kind};
 ghost use Rattle.std.specs.Vec.Iter.{into_iter_items};
-ghost use Rattle.sim_inputs.specs.CommandLine.{AreWordsRefusedFor};
 ghost use Rattle.sim_inputs.specs.declared.line.Command.TheVariants.{OfProgram};
 ghost use Rattle.sim_inputs.specs.declared.line.ProgramCommand.TheVariants.{Step};
 ghost use Rattle.command_parts.specs.Inputs.{as_read};
@@ -12,8 +11,9 @@ ghost use Rattle.command_parts.specs.Refused.{exit_status_of};
 ghost use Rattle.command_parts.specs.declared.refused.Refused.{Refused as AnyRefused};
 ghost use Rattle.commands.specs.Perform.{IsRefusal};
 ghost use Rattle.report_lines.specs.Statuses.{says_harts};
-ghost use Rattle.program_io.specs.Performed.{HasPerformed, HavePerformed, HaveEnded, read_of, typed_step};
-ghost use Rattle.program_io.specs.Words.{words_refused, IsWordsStatus};
+ghost use Rattle.plain_commands.specs.Suite.{IsKnown};
+ghost use Rattle.program_io.specs.Performed.{HasPerformed, LineHasCome, TypedHasCome, HaveEnded, read_of, typed_step};
+ghost use Rattle.program_io.specs.Words.{words_refused, IsWordsStatus, HaveTold};
 
 use crate::hinting::Hinting;
 use crate::noting::Noting;
@@ -24,6 +24,7 @@ use crate::words::{fault_of, refuse_words, take_words, texts};
 use actors::Gate;
 use command_parts::{Context, Inputs, Refused, refuse};
 use commands::{perform, perform_typed};
+use event_text::Sink;
 use fault_hints::{FileFault, FileFaults, LineFault, WordsFault};
 use sim_inputs::{
     Command, Line, ProgramCommand, StepCommand, WordsRefused, is_standard_input, read_words,
@@ -51,64 +52,74 @@ pub struct Program<'a, S, G, P> {
     pub alloc: Global,
 }
 
+/// What came of words or of a line: the exit status, and the output behind it.
+#[derive(Drop)]
+pub struct Performed<W> {
+    pub status: u8,
+    pub out: W,
+}
+
 /// Does all that the program does with its words, its own name first, and answers its exit status:
-/// what the words ask for is printed on `out`, and why it isn't on `err`. 0 for help and the version, 2 for a wrong
-/// command line, 5 for want of memory and where `out` fails; else that of the command that is
+/// what the words ask for is printed on `out`, which is handed back, and why it isn't on `err`. 0 for help and the
+/// version, 2 for a wrong command line, 5 for want of memory and where `out` fails; else that of the command that is
 /// performed. Words that are no text are a wrong command line. A trace is written to the file that the
 /// words name. The file named by a dash is standard input; a script is typed there, and asked as it comes,
 /// where that is a terminal. Behind the line of a fault a hint stands, where `--hints` asks for one, and where
 /// it says nothing of them if `err` is a terminal.
 pub fn perform_words<
+    'a,
     S: Files + Input + Threads + Wait + Sync,
     G: Gate + Sync,
     P: Predict + Copy + Send,
-    W: Write + Drop,
+    W: Write,
     E: Write,
->(program: &Program<'_, S, G, P>, words: io::Result<Args>, out: io::Result<W>, err: &mut E) -> u8
-    ensures known { IsTrue (says_harts result) ⊎ (result ≡ 2) ⊎ (result ≡ 4) ⊎ (result ≡ 5) }
-    ensures unopened { IfErr out (λ error. result ≡ 5) }
-    ensures unread { IfOk out (λ opened. IfErr words
-        (λ error. IsWordsStatus (words_refused (error_kind error)) result)) }
-    ensures read { IfOk out (λ opened. IfOk words
-        (λ args. HaveEnded program.now.at_terminal (map string_bytes (into_iter_items args)) result)) }
+>(program: &Program<'a, S, G, P>, words: io::Result<Args>, out: W, err: &mut E) -> Performed<W>
+    ensures known { IsKnown result.status }
+    ensures unread { IfErr words (λ error. IsWordsStatus (words_refused (error_kind error)) result.status
+        × HaveTold (words_refused (error_kind error)) (W.contents out) (W.contents result.out) result.status) }
+    ensures read { IfOk words (λ args. HaveEnded ⟦<OutputFiles<'a, S> as Sink>⟧.has_failed P.predicts
+        program.now (map string_bytes (into_iter_items args)) (W.contents out) (W.contents result.out) result.status) }
 {
-    match out {
-        Ok(mut out) => program.answer_words(words, &mut out, err),
-        Err(_) => refuse(Refused::Memory, err),
+    let performed = program.answer_words(words, Noting::new(out), err);
+    Performed {
+        status: performed.status,
+        out: performed.out.into_inner(),
     }
 }
 
-impl<S: Files + Input + Threads + Wait + Sync, G: Gate + Sync, P: Predict + Copy + Send> Program<
-    '_,
-    S,
-    G,
-    P,
-> {
+/// Says that there is no standard output to print on, for want of memory. Answers the exit status.
+pub fn refuse_unopened<E: Write>(err: &mut E) -> u8
+    ensures { result ≡ 5 }
+{
+    refuse(Refused::Memory, err)
+}
+
+impl<
+    'a,
+    S: Files + Input + Threads + Wait + Sync,
+    G: Gate + Sync,
+    P: Predict + Copy + Send,
+> Program<'a, S, G, P> {
     /// Does what the words ask for, or says why it isn't done.
     fn answer_words<W: Write, E: Write>(
         &self,
         words: io::Result<Args>,
-        out: &mut W,
+        out: Noting<W>,
         err: &mut E,
-    ) -> u8
-        ensures known { IsTrue (says_harts result) ⊎ (result ≡ 2) ⊎ (result ≡ 4) ⊎ (result ≡ 5) }
-        ensures unread { IfErr words
-            (λ error. IsWordsStatus (words_refused (error_kind error)) result) }
-        ensures read { IfOk words
-            (λ args. HaveEnded self.now.at_terminal (map string_bytes (into_iter_items args)) result) }
+    ) -> Performed<Noting<W>>
+        ensures known { IsKnown result.status }
+        ensures unread { IfErr words (λ error. IsWordsStatus (words_refused (error_kind error)) result.status
+            × HaveTold (words_refused (error_kind error)) (W.contents out.writer) (W.contents result.out.writer)
+            result.status) }
+        ensures read { IfOk words (λ args. HaveEnded ⟦<OutputFiles<'a, S> as Sink>⟧.has_failed
+            P.predicts self.now (map string_bytes (into_iter_items args)) (W.contents out.writer)
+            (W.contents result.out.writer) result.status) }
     {
-        let words = match take_words(words, self.alloc) {
-            Ok(words) => words,
+        match take_words(words, self.alloc) {
+            Ok(words) => self.answer_texts(words.as_slice(), out, err),
             Err(refused) => {
                 let fault = fault_of(&refused, false);
-                return self.refuse_and_hint(refused, fault, &[], out, err);
-            }
-        };
-        match self.answer_texts(words.as_slice(), out, err) {
-            Ok(status) => status,
-            Err(refused) => {
-                let fault = fault_of(&refused, true);
-                self.refuse_and_hint(refused, fault, words.as_slice(), out, err)
+                self.refuse_and_hint(refused, fault, &[], out, err)
             }
         }
     }
@@ -119,13 +130,14 @@ impl<S: Files + Input + Threads + Wait + Sync, G: Gate + Sync, P: Predict + Copy
         refused: WordsRefused,
         fault: WordsFault,
         words: &[String],
-        out: &mut W,
+        out: Noting<W>,
         err: &mut E,
-    ) -> u8
-        ensures known { IsTrue (says_harts result) ⊎ (result ≡ 2) ⊎ (result ≡ 4) ⊎ (result ≡ 5) }
-        ensures status { IsWordsStatus refused result }
+    ) -> Performed<Noting<W>>
+        ensures known { IsKnown result.status }
+        ensures status { IsWordsStatus refused result.status }
+        ensures told { HaveTold refused (W.contents out.writer) (W.contents result.out.writer) result.status }
     {
-        let mut out = Noting::new(out);
+        let mut out = out;
         let status = refuse_words(refused, &mut out, err);
         let fault = match fault {
             WordsFault::Output(_) => WordsFault::Output(out.failure()),
@@ -134,7 +146,7 @@ impl<S: Files + Input + Threads + Wait + Sync, G: Gate + Sync, P: Predict + Copy
         if status != 0 {
             self.hinting().tell_words(fault, words, err);
         }
-        status
+        Performed { status, out }
     }
 
     pub(crate) fn hinting(&self) -> Hinting {
@@ -144,38 +156,54 @@ impl<S: Files + Input + Threads + Wait + Sync, G: Gate + Sync, P: Predict + Copy
         }
     }
 
-    /// Does what words that are texts ask for, or answers why it isn't done.
+    /// Does what words that were read ask for, or says why it isn't done.
     fn answer_texts<W: Write, E: Write>(
         &self,
         words: &[String],
-        out: &mut W,
+        out: Noting<W>,
         err: &mut E,
-    ) -> Result<u8, WordsRefused>
-        ensures known { IfOk result
-            (λ status. IsTrue (says_harts status) ⊎ (status ≡ 2) ⊎ (status ≡ 4) ⊎ (status ≡ 5)) }
-        ensures performed { IfOk result
-            (HavePerformed self.now.at_terminal (map string_bytes words.now)) }
-        ensures refused { IfErr result (AreWordsRefusedFor (map string_bytes words.now)) }
+    ) -> Performed<Noting<W>>
+        ensures known { IsKnown result.status }
+        ensures ended { HaveEnded ⟦<OutputFiles<'a, S> as Sink>⟧.has_failed
+            P.predicts self.now (map string_bytes words.now) (W.contents out.writer) (W.contents result.out.writer)
+            result.status }
     {
         let texts = match texts(words, self.alloc) {
             Ok(texts) => texts,
-            Err(AllocError) => return Err(WordsRefused::Memory),
+            Err(AllocError) => return self.refuse_read(WordsRefused::Memory, words, out, err),
         };
         match read_words(texts.as_slice(), self.alloc) {
-            Ok(line) => Ok(self.perform_asked(&line, texts.as_slice(), &mut Noting::new(out), err)),
-            Err(refused) => Err(refused),
+            Ok(line) => self.perform_asked(&line, texts.as_slice(), out, err),
+            Err(refused) => self.refuse_read(refused, words, out, err),
         }
+    }
+
+    /// Prints help, or says why words are refused that were read.
+    fn refuse_read<W: Write, E: Write>(
+        &self,
+        refused: WordsRefused,
+        words: &[String],
+        out: Noting<W>,
+        err: &mut E,
+    ) -> Performed<Noting<W>>
+        ensures known { IsKnown result.status }
+        ensures status { IsWordsStatus refused result.status }
+        ensures told { HaveTold refused (W.contents out.writer) (W.contents result.out.writer) result.status }
+    {
+        let fault = fault_of(&refused, true);
+        self.refuse_and_hint(refused, fault, words, out, err)
     }
 
     /// Reads the files that a line names, and performs its command.
     pub(crate) fn read_and_perform<W: Write, E: Write>(
         &self,
         line: &Line<'_>,
-        out: &mut Noting<W>,
+        out: Noting<W>,
         err: &mut E,
-    ) -> u8
-        ensures known { IsTrue (says_harts result) ⊎ (result ≡ 2) ⊎ (result ≡ 4) ⊎ (result ≡ 5) }
-        ensures performed { HasPerformed self.now.at_terminal line.now result }
+    ) -> Performed<Noting<W>>
+        ensures known { IsKnown result.status }
+        ensures performed { HasPerformed ⟦<OutputFiles<'a, S> as Sink>⟧.has_failed P.predicts self.now line.now
+            (W.contents out.writer) (W.contents result.out.writer) result.status }
     {
         if let Some(step) = typed_step(line, self.at_terminal) {
             return self.read_and_prompt(line, &step, out, err);
@@ -197,7 +225,11 @@ impl<S: Files + Input + Threads + Wait + Sync, G: Gate + Sync, P: Predict + Copy
             refused: None,
             alloc: self.alloc,
         };
-        self.perform_and_hint(line, &read, &mut context, err)
+        let status = self.perform_and_hint(line, &read, &mut context, err);
+        Performed {
+            status,
+            out: context.out,
+        }
     }
 
     /// Performs the command of a line whose files are read, with the hint of its fault behind it.
@@ -205,15 +237,19 @@ impl<S: Files + Input + Threads + Wait + Sync, G: Gate + Sync, P: Predict + Copy
         &self,
         line: &Line<'_>,
         read: &ReadInputs,
-        context: &mut Context<'_, S, G, P, OutputFiles<'_, S>, &mut Noting<W>>,
+        context: &mut Context<'_, S, G, P, OutputFiles<'_, S>, Noting<W>>,
         err: &mut E,
     ) -> u8
         requires works { is_some context.old.files.fault ≡ false }
         requires finished { not (is_some context.old.files.current) ≡ true }
-        ensures known { IsTrue (says_harts result) ⊎ (result ≡ 2) ⊎ (result ≡ 4) ⊎ (result ≡ 5) }
+        ensures known { IsKnown result }
         ensures refused { says_harts result ≡ false → (reason : AnyRefused)
             × (exit_status_of reason ≡ result) × IsRefusal line.now.harts line.now.command (read_of read.now.config)
             (read_of read.now.program) (read_of read.now.second) (read_of read.now.lines) reason }
+        ensures comes { IsTrue (says_harts result) → LineHasCome
+            ⟦<OutputFiles<'a, S> as Sink>⟧.has_failed context.old.files line.now.harts line.now.command
+            (read_of read.now.config) (read_of read.now.program) (read_of read.now.second) (read_of read.now.lines)
+            (W.contents context.old.out.writer) (W.contents context.new.out.writer) result }
     {
         let inputs = read.lent();
         let status = perform(context, line, &inputs, err);
@@ -250,12 +286,13 @@ impl<S: Files + Input + Threads + Wait + Sync, G: Gate + Sync, P: Predict + Copy
         &self,
         line: &Line<'_>,
         step: &StepCommand<'_>,
-        out: &mut Noting<W>,
+        out: Noting<W>,
         err: &mut E,
-    ) -> u8
+    ) -> Performed<Noting<W>>
         requires { typed_step self.now.at_terminal line.now.command ≡ Some step.now }
-        ensures known { IsTrue (says_harts result) ⊎ (result ≡ 2) ⊎ (result ≡ 4) ⊎ (result ≡ 5) }
-        ensures performed { HasPerformed self.now.at_terminal line.now result }
+        ensures known { IsKnown result.status }
+        ensures performed { HasPerformed ⟦<OutputFiles<'a, S> as Sink>⟧.has_failed P.predicts self.now line.now
+            (W.contents out.writer) (W.contents result.out.writer) result.status }
     {
         let mut files = line.files();
         files.second = None;
@@ -274,7 +311,11 @@ impl<S: Files + Input + Threads + Wait + Sync, G: Gate + Sync, P: Predict + Copy
             refused: None,
             alloc: self.alloc,
         };
-        self.prompt_and_hint(line, step, &read, &mut context, err)
+        let status = self.prompt_and_hint(line, step, &read, &mut context, err);
+        Performed {
+            status,
+            out: context.out,
+        }
     }
 
     /// Performs `step` with a script that is typed, whose other files are read, with the hint of its fault behind it.
@@ -283,12 +324,16 @@ impl<S: Files + Input + Threads + Wait + Sync, G: Gate + Sync, P: Predict + Copy
         line: &Line<'_>,
         step: &StepCommand<'_>,
         read: &ReadInputs,
-        context: &mut Context<'_, S, G, P, OutputFiles<'_, S>, &mut Noting<W>>,
+        context: &mut Context<'_, S, G, P, OutputFiles<'_, S>, Noting<W>>,
         err: &mut E,
     ) -> u8
         requires works { is_some context.old.files.fault ≡ false }
         requires finished { not (is_some context.old.files.current) ≡ true }
-        ensures known { IsTrue (says_harts result) ⊎ (result ≡ 2) ⊎ (result ≡ 4) ⊎ (result ≡ 5) }
+        ensures known { IsKnown result }
+        ensures comes { IsTrue (says_harts result) → TypedHasCome
+            ⟦<OutputFiles<'a, S> as Sink>⟧.has_failed P.predicts context.old.predict context.old.files line.now.harts
+            step.now (read_of read.now.config) (read_of read.now.program) (read_of read.now.lines)
+            (W.contents context.old.out.writer) (W.contents context.new.out.writer) result }
         ensures refused { says_harts result ≡ false → (reason : AnyRefused)
             × (exit_status_of reason ≡ result) × IsRefusal line.now.harts (OfProgram (Step step.now))
             (read_of read.now.config) (read_of read.now.program) (Ok []) (read_of read.now.lines) reason }

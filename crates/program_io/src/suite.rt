@@ -1,14 +1,13 @@
 //! A line that names several litmus tests, or asks for what they come to in lines.
 
-ghost use Rattle.std.specs.Prelude.{◌≡◌, ◌⊎◌, IfSome, Option};
+ghost use Rattle.std.specs.Prelude.{◌≡◌, ◌⊎◌, IfSome};
 ghost use Rattle.sim_inputs.specs.declared.line.Command.TheVariants.{Litmus};
 ghost use Rattle.plain_commands.specs.Suite.{IsKnown};
-ghost use Rattle.commands.specs.declared.suites.SuiteRefused.{SuiteRefused as AnyRefused};
-ghost use Rattle.program_io.specs.Performed.{HasPerformed, HasTested, IsRefusedSuite, read_of};
+ghost use Rattle.program_io.specs.Performed.{HasPerformed, HasTested, SuiteHasCome, SuiteIsRefused, read_of};
 
 use crate::noting::Noting;
 use crate::output_files::{OutputFiles, Places};
-use crate::performing::Program;
+use crate::performing::{Performed, Program};
 use crate::read_files::ReadFiles;
 use crate::read_inputs::ReadInputs;
 use crate::test_files::TestFiles;
@@ -16,6 +15,7 @@ use crate::test_names::is_folder;
 use actors::Gate;
 use command_parts::{Context, Refused, refuse};
 use commands::perform_suite_line;
+use event_text::Sink;
 use sim_inputs::{Command, Line, LitmusCommand, tests_asked};
 use smt_core::Predict;
 use std::alloc::AllocError;
@@ -24,22 +24,24 @@ use std::rt::Files;
 use std::sync::Wait;
 use std::thread::Threads;
 
-impl<S: Files + Input + Threads + Wait + Sync, G: Gate + Sync, P: Predict + Copy + Send> Program<
-    '_,
-    S,
-    G,
-    P,
-> {
+impl<
+    'a,
+    S: Files + Input + Threads + Wait + Sync,
+    G: Gate + Sync,
+    P: Predict + Copy + Send,
+> Program<'a, S, G, P> {
     /// Reads the files that a line names, which these words ask for, and performs its command.
     pub(crate) fn perform_asked<W: Write, E: Write>(
         &self,
         line: &Line<'_>,
         words: &[&str],
-        out: &mut Noting<W>,
+        out: Noting<W>,
         err: &mut E,
-    ) -> u8
-        ensures known { IsKnown result }
-        ensures performed { HasPerformed self.now.at_terminal line.now result ⊎ HasTested line.now result }
+    ) -> Performed<Noting<W>>
+        ensures known { IsKnown result.status }
+        ensures performed { HasPerformed ⟦<OutputFiles<'a, S> as Sink>⟧.has_failed P.predicts self.now line.now
+            (W.contents out.writer) (W.contents result.out.writer) result.status
+            ⊎ HasTested line.now (W.contents out.writer) (W.contents result.out.writer) result.status }
     {
         match suite_of(line, self.system) {
             Some(litmus) => self.read_and_test(line, litmus, words, out, err),
@@ -53,15 +55,18 @@ impl<S: Files + Input + Threads + Wait + Sync, G: Gate + Sync, P: Predict + Copy
         line: &Line<'_>,
         litmus: LitmusCommand<'_>,
         words: &[&str],
-        out: &mut Noting<W>,
+        out: Noting<W>,
         err: &mut E,
-    ) -> u8
+    ) -> Performed<Noting<W>>
         requires { line.now.command ≡ Litmus litmus }
-        ensures { HasTested line.now result }
+        ensures { HasTested line.now (W.contents out.writer) (W.contents result.out.writer) result.status }
     {
         let tests = match tests_asked(words, self.alloc) {
             Ok(tests) => tests,
-            Err(AllocError) => return refuse(Refused::Memory, err),
+            Err(AllocError) => {
+                let status = refuse(Refused::Memory, err);
+                return Performed { status, out };
+            }
         };
         let mut files = line.files();
         files.program = None;
@@ -90,7 +95,11 @@ impl<S: Files + Input + Threads + Wait + Sync, G: Gate + Sync, P: Predict + Copy
             self.hinting(),
             err,
         );
-        self.test_and_hint(&litmus, &read, &mut context, &mut source)
+        let status = self.test_and_hint(&litmus, &read, &mut context, &mut source);
+        Performed {
+            status,
+            out: context.out,
+        }
     }
 
     /// Makes the tests of a line whose other files are read, with the hint of a fault of the line behind it.
@@ -98,12 +107,13 @@ impl<S: Files + Input + Threads + Wait + Sync, G: Gate + Sync, P: Predict + Copy
         &self,
         litmus: &LitmusCommand<'_>,
         read: &ReadInputs,
-        context: &mut Context<'_, S, G, P, OutputFiles<'_, S>, &mut Noting<W>>,
+        context: &mut Context<'_, S, G, P, OutputFiles<'_, S>, Noting<W>>,
         source: &mut TestFiles<'_, S, E>,
     ) -> u8
         ensures known { IsKnown result }
-        ensures refused { (why : Option AnyRefused) × IsRefusedSuite litmus.now (read_of read.now.config)
-            (read_of read.now.second) result why }
+        ensures ended { SuiteIsRefused litmus.now (read_of read.now.config) (read_of read.now.second) result
+            ⊎ SuiteHasCome litmus.now (read_of read.now.config) (read_of read.now.second)
+            (W.contents context.old.out.writer) (W.contents context.new.out.writer) result }
     {
         let inputs = read.lent();
         match perform_suite_line(context, litmus, &inputs, source) {
@@ -117,7 +127,7 @@ impl<S: Files + Input + Threads + Wait + Sync, G: Gate + Sync, P: Predict + Copy
 }
 
 /// The command of a line whose tests are several, by its words or since the one is a folder; or which asks for lines in
-/// place of states. A file is written of one test, which is read as it stands.
+/// place of states. A file is written of one test, which is read as it stands, and so is one that is run.
 fn suite_of<'a, S: Files>(line: &Line<'a>, system: &S) -> Option<LitmusCommand<'a>>
     ensures { IfSome result (λ litmus. line.now.command ≡ Litmus litmus) }
 {
@@ -127,7 +137,10 @@ fn suite_of<'a, S: Files>(line: &Line<'a>, system: &S) -> Option<LitmusCommand<'
     if litmus.several || litmus.is_summed() {
         return Some(litmus);
     }
-    if litmus.written().is_none() && is_folder(system, litmus.test) {
+    if litmus.written().is_some() || litmus.run.is_some() {
+        return None;
+    }
+    if is_folder(system, litmus.test) {
         return Some(litmus);
     }
     None

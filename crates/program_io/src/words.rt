@@ -4,7 +4,7 @@ ghost use Rattle.std.specs.Io.KnownBytes.{Appends};
 ghost use Rattle.std.specs.IoError.{error_kind};
 ghost use Rattle.sim_inputs.specs.declared.line.WordsRefused.TheVariants.{Memory};
 ghost use Rattle.report_lines.specs.Statuses.{says_harts};
-ghost use Rattle.program_io.specs.Words.{words_refused, IsWordsStatus};
+ghost use Rattle.program_io.specs.Words.{words_refused, HaveTold, IsWordsStatus};
 
 use command_parts::{Refused, refuse};
 use fault_hints::WordsFault;
@@ -78,6 +78,7 @@ pub(crate) fn fault_of(refused: &WordsRefused, are_read: bool) -> WordsFault {
 pub fn refuse_words<W: Write, E: Write>(refused: WordsRefused, out: &mut W, err: &mut E) -> u8
     ensures known { IsTrue (says_harts result) ⊎ (result ≡ 2) ⊎ (result ≡ 4) ⊎ (result ≡ 5) }
     ensures status { IsWordsStatus refused result }
+    ensures told { HaveTold refused (W.contents out.old) (W.contents out.new) result }
 {
     match refused {
         WordsRefused::Help(text) | WordsRefused::Version(text) => match print(text.as_str(), out) {

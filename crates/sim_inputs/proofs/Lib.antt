@@ -12,4 +12,5 @@ pub mod Rows
 pub mod Searches
 pub mod Several
 pub mod Subcommand
+pub mod Tests
 pub mod Written

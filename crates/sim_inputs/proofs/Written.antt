@@ -19,16 +19,20 @@ text_of file = option_map (λ f. f.now) file
 abbrev pub either : Option Text → Option Text → Option Text
 either first second = if is_some first then first else second
 
+-- what is written of an order
+abbrev order_text : List Row → Option Text
+order_text rows = either (first_of (codes "witness") rows)
+    (either (first_of (codes "script") rows)
+    (either (first_of (codes "story") rows) (first_of (codes "story-svg") rows)))
+
 abbrev written_text : Text → List Row → Option Text
 written_text name rows =
     if bytes_eq name (codes "step") then first_of (codes "trace") rows
     else (if bytes_eq name (codes "run") then first_of (codes "trace") rows
     else (if bytes_eq name (codes "chart") then either (first_of (codes "svg") rows) (first_of (codes "kanata") rows)
-    else (if bytes_eq name (codes "outcomes")
-    then either (first_of (codes "witness") rows)
-    (either (first_of (codes "script") rows)
-    (either (first_of (codes "story") rows) (first_of (codes "story-svg") rows)))
-    else (if bytes_eq name (codes "litmus") then either (first_of (codes "image") rows) (first_of (codes "svg") rows)
+    else (if bytes_eq name (codes "outcomes") then order_text rows
+    else (if bytes_eq name (codes "litmus")
+    then either (first_of (codes "image") rows) (either (first_of (codes "svg") rows) (order_text rows))
     else (if bytes_eq name (codes "migrate") then first_of (codes "OUT") rows
     else (if bytes_eq name (codes "plain") then first_of (codes "story-svg") rows else None))))))
 
@@ -54,7 +58,11 @@ written_is name rows config (commands.OfProgram (program.Outcomes outcomes)) is 
     rw is.0 (either_text outcomes.witness _ _ _ is.1.witness (sym behind))
 written_is name rows config (commands.Explain explain) is = rw is.0 refl
 written_is name rows config (commands.Litmus litmus) is =
-    rw is.0 (either_text litmus.image litmus.svg _ _ is.1.image is.1.svg)
+    let last = either_text litmus.story litmus.story_svg _ _ is.1.story is.1.story_svg in
+    let behind = either_text litmus.script _ _ _ is.1.script (sym last) in
+    let order = either_text litmus.witness _ _ _ is.1.witness (sym behind) in
+    let drawn = either_text litmus.svg _ _ _ is.1.svg (sym order) in
+    rw is.0 (either_text litmus.image _ _ _ is.1.image (sym drawn))
 written_is name rows config (commands.Migrate migrate) is = rw is.0 (ap Some refl ∙ sym is.1.out)
 
 abbrev is_undashed : Option Text → Bool

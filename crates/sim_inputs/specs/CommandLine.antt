@@ -39,8 +39,9 @@ use Rattle.sim_inputs.specs.ChartEnds.{do_ends_rise, IsEndOf}
 use Rattle.sim_inputs.specs.Rules.{smtsim}
 use Rattle.sim_inputs.specs.Files.{is_standard_input, reads_input_once, writes_no_dash}
 use Rattle.sim_inputs.specs.HintsWanted.{hints_in}
+use Rattle.sim_inputs.specs.TestOrders.{order_asked}
 use Rattle.sim_inputs.specs.Themes.{can_be_themed, theme_in}
-use Rattle.sim_inputs.specs.SeveralTests.{are_several, is_told_alone, is_written_alone, names_input, tests_in}
+use Rattle.sim_inputs.specs.SeveralTests.{are_several, is_made_alone, is_told_alone, names_input, tests_in}
 use Rattle.story_pictures.specs.declared.form.Theme.{Theme}
 
 -- The last event that a history may have; the last hart that a core may have; how often a program is
@@ -347,11 +348,22 @@ pub record IsOutcomes (rows : List Row) (outcomes : OutcomesCommand) : Type 0 wh
   pub lines : IsFileOption rows (codes "lines") outcomes.lines
   pub together : can_be_searched outcomes ≡ true
 
--- Some state is looked at, one file at most is written: the image, or the picture, of one test alone; and what stands
--- in place of the states is alone too.
+-- Of a litmus test one file at most is written: the image, the picture of why, or what is written of an order.
+abbrev pub are_files_apart : LitmusCommand → Bool
+are_files_apart litmus = if is_some litmus.image then not (is_some litmus.svg) && not (is_some litmus.outcome)
+    else (not (is_some litmus.svg) || not (is_some litmus.outcome))
+
+-- There is one run of the core at least, where some are made, and then nothing is asked of the states.
+abbrev pub are_runs_alone : LitmusCommand → Bool
+are_runs_alone litmus = option_map_or
+    (λ times. nat_le 1 times && not (is_some litmus.outcome) && not (is_some litmus.svg) && not litmus.why)
+    litmus.run true
+
+-- Some state is looked at, and an order is written of one of them, from 1, in one way; or none is. What is made of one
+-- test has no other beside it, and what stands in place of the states is alone too.
 abbrev pub can_be_tested : LitmusCommand → Bool
-can_be_tested litmus = nat_le 1 litmus.states && not (is_some litmus.image && is_some litmus.svg)
-    && is_written_alone litmus && is_told_alone litmus
+can_be_tested litmus = can_be_searched (order_asked litmus) && are_files_apart litmus && are_runs_alone litmus
+    && is_made_alone litmus && is_told_alone litmus
 
 pub record IsLitmus (rows : List Row) (litmus : LitmusCommand) : Type 0 where
   pub test : IsFile rows (codes "TEST") litmus.test
@@ -359,6 +371,14 @@ pub record IsLitmus (rows : List Row) (litmus : LitmusCommand) : Type 0 where
   pub why : IsFlag rows (codes "why") litmus.why
   pub image : IsFileOption rows (codes "image") litmus.image
   pub svg : IsFileOption rows (codes "svg") litmus.svg
+  pub outcome : IsNumberOption rows (codes "outcome") most_states litmus.outcome
+  pub witness : IsFileOption rows (codes "witness") litmus.witness
+  pub script : IsFileOption rows (codes "script") litmus.script
+  pub story : IsFileOption rows (codes "story") litmus.story
+  pub story_svg : IsFileOption rows (codes "story-svg") litmus.story_svg
+  pub theme : IsTheme rows litmus.theme
+  pub all : IsFlag rows (codes "all") litmus.all
+  pub run : IsNumberOption rows (codes "run") most_times litmus.run
   pub summary : IsFlag rows (codes "summary") litmus.summary
   pub expect : IsFileOption rows (codes "expect") litmus.expect
   pub several : are_several (tests_in rows) ≡ litmus.several

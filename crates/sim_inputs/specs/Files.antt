@@ -8,6 +8,7 @@ use Rattle.sim_inputs.specs.{declared.line.ProgramCommand.ProgramCommand}
 use Rattle.sim_inputs.specs.{declared.line.ChartCommand.ChartCommand}
 use Rattle.sim_inputs.specs.{declared.line.OutcomesCommand.OutcomesCommand}
 use Rattle.sim_inputs.specs.{declared.line.LitmusCommand.LitmusCommand}
+use Rattle.sim_inputs.specs.TestOrders.{order_asked}
 use Rattle.sim_inputs.specs.{declared.line.ExplainCommand.ExplainCommand, declared.line.Beside.Beside}
 use Rattle.sim_inputs.specs.declared.line.Beside.TheVariants as beside
 use Rattle.sim_inputs.specs.declared.line.Command.TheVariants as commands
@@ -23,9 +24,11 @@ written_order outcomes = if is_some outcomes.witness then outcomes.witness
     else (if is_some outcomes.script then outcomes.script
     else (if is_some outcomes.story then outcomes.story else outcomes.story_svg))
 
--- The file that a test's image is written to, or the picture of why it can't end so.
+-- The file that a test's image is written to, or the picture of why it can't end so, or what is written of the order of a
+-- final state.
 abbrev pub written_for_test : LitmusCommand → Option (Bor (List ℕ))
-written_for_test litmus = if is_some litmus.image then litmus.image else litmus.svg
+written_for_test litmus = if is_some litmus.image then litmus.image
+    else (if is_some litmus.svg then litmus.svg else written_order (order_asked litmus))
 
 -- The file that is explained beside an image.
 abbrev pub beside_name : Beside → Bor (List ℕ)

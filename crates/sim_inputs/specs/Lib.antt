@@ -7,4 +7,5 @@ pub mod HintsWanted
 pub mod Rules
 pub mod SeveralTests
 pub mod Table
+pub mod TestOrders
 pub mod Themes

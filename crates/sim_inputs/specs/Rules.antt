@@ -169,6 +169,9 @@ explained_script_rule = file_option_rule (codes "script")
 abbrev pub explained_order_rule : Rule
 explained_order_rule = file_option_rule (codes "order")
 
+abbrev pub run_rule : Rule
+run_rule = number_option_rule (codes "run")
+
 abbrev pub test_rule : Rule
 test_rule = files_rule (codes "TEST")
 
@@ -252,11 +255,13 @@ outcomes_command = subcommand (codes "outcomes") (image_rule ∷ config_rule ∷
     ∷ exists_rule ∷ forall_rule ∷ never_rule ∷ never_stuck_rule ∷ first_rule ∷ outcome_rule ∷ stuck_rule ∷ witness_rule
     ∷ written_script_rule ∷ written_story_rule ∷ story_svg_rule ∷ theme_rule ∷ all_rule ∷ lines_rule ∷ [])
 
--- `litmus TEST..`, with `--config FILE`, `--states N`, `--image FILE`, `--why`, `--svg FILE`, `--summary` and
--- `--expect FILE`.
+-- `litmus TEST..`, with `--config FILE`, `--states N`, `--image FILE`, `--why`, `--svg FILE`, `--outcome N`,
+-- `--witness FILE`, `--script FILE`, `--story FILE`, `--story-svg FILE`, `--theme THEME`, `--all`, `--run N`, `--summary`
+-- and `--expect FILE`.
 abbrev pub litmus_command : App
 litmus_command = subcommand (codes "litmus") (test_rule ∷ config_rule ∷ states_rule ∷ written_image_rule
-    ∷ why_rule ∷ svg_rule ∷ summary_rule ∷ expect_rule ∷ [])
+    ∷ why_rule ∷ svg_rule ∷ outcome_rule ∷ witness_rule ∷ written_script_rule ∷ written_story_rule ∷ story_svg_rule
+    ∷ theme_rule ∷ all_rule ∷ run_rule ∷ summary_rule ∷ expect_rule ∷ [])
 
 -- `migrate TRACE OUT`, with `--config FILE`.
 abbrev pub migrate_command : App

@@ -23,12 +23,16 @@ are_several names = nat_lt 1 (length names) || list_any names_list names
 abbrev pub names_input : List Text → Bool
 names_input names = list_any is_standard_input names
 
--- A file is written of one test alone, whose states are printed.
+-- Something else is printed than the states of the tests.
 abbrev pub is_summed : LitmusCommand → Bool
 is_summed litmus = litmus.summary || is_some litmus.expect
 
-abbrev pub is_written_alone : LitmusCommand → Bool
-is_written_alone litmus = not (is_some litmus.image || is_some litmus.svg) || not (litmus.several || is_summed litmus)
+-- A file is written, the order of a state is, and runs of the core are made, of one test alone, whose states are printed.
+abbrev pub is_of_one : LitmusCommand → Bool
+is_of_one litmus = is_some litmus.image || is_some litmus.svg || is_some litmus.outcome || is_some litmus.run
+
+abbrev pub is_made_alone : LitmusCommand → Bool
+is_made_alone litmus = not (is_of_one litmus) || not (litmus.several || is_summed litmus)
 
 -- In place of the states stands a summary, or what differs from one, and behind it no reasons.
 abbrev pub is_told_alone : LitmusCommand → Bool

@@ -354,6 +354,18 @@ pub(crate) const SVG_OF_WHY: Argument = Argument {
     help: "The file for a picture of that",
 };
 
+pub(crate) const OUTCOME_OF_TEST: Argument = Argument {
+    kind: Kind::Number,
+    name: "outcome",
+    help: "The state whose order is written, by its line",
+};
+
+pub(crate) const RUN_TEST: Argument = Argument {
+    kind: Kind::Number,
+    name: "run",
+    help: "Run it N times by threads, and count each state",
+};
+
 pub(crate) const WRITTEN_OUT: Argument = Argument {
     kind: Kind::File,
     name: "OUT",

@@ -57,14 +57,18 @@ impl<'a> OutcomesCommand<'a> {
 }
 
 impl<'a> LitmusCommand<'a> {
-    /// The file that the test's image is written to, or the picture; none where nothing is written.
+    /// The file that the test's image is written to, or the picture of why, or what is written of the order of a
+    /// final state; none where nothing is written.
     pub fn written(&self) -> Option<&'a str>
         ensures { result ≡ written_for_test self.now }
     {
         if self.image.is_some() {
             return self.image;
         }
-        self.svg
+        if self.svg.is_some() {
+            return self.svg;
+        }
+        self.order_asked().written()
     }
 }
 

@@ -86,7 +86,8 @@ status is 0 for yes, 1 for no, and 3 where what was found does not tell.";
 pub(crate) const LITMUS_FORM: &str = "\
 TEST is a litmus test in herd's RISC-V format. The plain machine has as many
 harts as the test, whatever the configuration says, and a word of memory for
-each location. The states are printed as herd prints them, each once.
+each location. The states are printed as herd prints them, each once. With --run
+they are counted over runs of the core, and printed as litmus7 prints them.
 A folder stands for its files *.litmus, in the order of their names, and @FILE
 for the names in FILE, one a line, # for a comment. Tests are made one behind
 the other; --summary has a line each, and --expect FILE prints what differs

@@ -4,11 +4,8 @@ ghost use Rattle.std.specs.Prelude.{◌≡◌};
 ghost use Rattle.clap.specs.Words.{found_of, rows_of};
 ghost use Rattle.sim_inputs.specs.CommandLine.{Finds, IsBeside, IsChart, IsCheck, IsExplain, IsList};
 ghost use Rattle.sim_inputs.specs.CommandLine.{IsLitmus, IsMigrate, IsOutcomes, IsPlain, IsRun, IsSchedule};
-ghost use Rattle.sim_inputs.specs.CommandLine.{IsScript, IsStep, IsQuestion, has_condition, has_no_file};
-ghost use Rattle.sim_inputs.specs.CommandLine.{are_orders_together, can_be_drawn};
-ghost use Rattle.sim_inputs.specs.CommandLine.{can_be_plain, can_be_run, can_be_searched, can_be_tested};
-ghost use Rattle.sim_inputs.specs.CommandLine.{are_stories_together, can_be_told, has_named_folder, has_one_file};
-ghost use Rattle.sim_inputs.specs.CommandLine.{has_one_story, has_story, is_reported, shows_story};
+ghost use Rattle.sim_inputs.specs.CommandLine.{IsScript, IsStep, IsQuestion, can_be_drawn, can_be_plain, can_be_run};
+ghost use Rattle.sim_inputs.specs.CommandLine.{can_be_told, has_named_folder, is_reported, shows_story};
 
 use crate::chart_ends::{chart_end, do_ends_rise};
 use crate::files::is_standard_input;
@@ -18,7 +15,9 @@ use crate::line::{
     OutcomesCommand, PlainCommand, QuestionText, RunCommand, ScheduleCommand, ScriptCommand,
     StepCommand,
 };
-use crate::several_tests::{are_several, is_told_alone, is_written_alone, names_input};
+use crate::outcome_options::can_be_searched;
+use crate::several_tests::{are_several, names_input};
+use crate::test_orders::can_be_tested;
 use crate::themes::{can_be_themed, theme_in};
 use clap::ArgMatches;
 use numbers::sizes::{MOST_EVENTS, MOST_HARTS};
@@ -319,83 +318,6 @@ fn question_in<'a>(found: &ArgMatches<'a>) -> Option<Option<QuestionText<'a>>>
     }
 }
 
-/// Whether some state is looked at, and the options of orders, of stories and of pictures go together.
-fn can_be_searched(outcomes: &OutcomesCommand<'_>) -> bool
-    ensures { result ≡ can_be_searched outcomes.now }
-{
-    outcomes.states >= 1
-        && are_orders_together(outcomes)
-        && (!outcomes.first || has_condition(outcomes))
-        && are_stories_together(outcomes)
-        && can_be_themed(outcomes.story_svg.is_some(), outcomes.theme.is_some())
-}
-
-/// Whether what says more of a story has one.
-fn are_stories_together(outcomes: &OutcomesCommand<'_>) -> bool
-    ensures { result ≡ are_stories_together outcomes.now }
-{
-    if outcomes.story.is_some() {
-        return true;
-    }
-    !outcomes.all && (outcomes.story_svg.is_some() || outcomes.lines.is_none())
-}
-
-/// Whether an order is written of one end alone, and into one file; or none is.
-fn are_orders_together(outcomes: &OutcomesCommand<'_>) -> bool
-    ensures { result ≡ are_orders_together outcomes.now }
-{
-    match outcomes.outcome {
-        Some(number) => number >= 1 && !outcomes.stuck && has_one_file(outcomes),
-        None if outcomes.stuck => has_one_file(outcomes),
-        None if outcomes.question.is_some() => has_no_file(outcomes) || has_one_file(outcomes),
-        None => has_no_file(outcomes),
-    }
-}
-
-/// Whether an order is written in one way: as it is, as its script, as its story or as a picture of that.
-fn has_one_file(outcomes: &OutcomesCommand<'_>) -> bool
-    ensures { result ≡ has_one_file outcomes.now }
-{
-    match (outcomes.witness, outcomes.script) {
-        (Some(_), None) | (None, Some(_)) => !has_story(outcomes),
-        (None, None) => has_one_story(outcomes),
-        (Some(_), Some(_)) => false,
-    }
-}
-
-/// Whether a story is written, or a picture of one, and not both.
-fn has_one_story(outcomes: &OutcomesCommand<'_>) -> bool
-    ensures { result ≡ has_one_story outcomes.now }
-{
-    match (outcomes.story, outcomes.story_svg) {
-        (Some(_), None) | (None, Some(_)) => true,
-        _ => false,
-    }
-}
-
-fn has_no_file(outcomes: &OutcomesCommand<'_>) -> bool
-    ensures { result ≡ has_no_file outcomes.now }
-{
-    outcomes.witness.is_none() && outcomes.script.is_none() && !has_story(outcomes)
-}
-
-/// Whether a story is written, or a picture of one.
-fn has_story(outcomes: &OutcomesCommand<'_>) -> bool
-    ensures { result ≡ has_story outcomes.now }
-{
-    outcomes.story.is_some() || outcomes.story_svg.is_some()
-}
-
-/// Whether a question is asked that has a condition.
-fn has_condition(outcomes: &OutcomesCommand<'_>) -> bool
-    ensures { result ≡ has_condition outcomes.now.question }
-{
-    match outcomes.question {
-        Some(QuestionText::NeverStuck) | None => false,
-        Some(_) => true,
-    }
-}
-
 pub(crate) fn litmus_in<'a>(found: &ArgMatches<'a>) -> Option<LitmusCommand<'a>>
     ensures { Finds (IsLitmus (rows_of (found_of found.now))) result }
 {
@@ -405,6 +327,14 @@ pub(crate) fn litmus_in<'a>(found: &ArgMatches<'a>) -> Option<LitmusCommand<'a>>
         why: is_set(found, "why"),
         image: value_of(found, "image"),
         svg: value_of(found, "svg"),
+        outcome: number(found, "outcome", u32::MAX)?,
+        witness: value_of(found, "witness"),
+        script: value_of(found, "script"),
+        story: value_of(found, "story"),
+        story_svg: value_of(found, "story-svg"),
+        theme: theme_in(found)?,
+        all: is_set(found, "all"),
+        run: number(found, "run", MOST_TIMES)?,
         summary: is_set(found, "summary"),
         expect: value_of(found, "expect"),
         several: are_several(found),
@@ -416,17 +346,6 @@ pub(crate) fn litmus_in<'a>(found: &ArgMatches<'a>) -> Option<LitmusCommand<'a>>
         return None;
     }
     Some(litmus)
-}
-
-/// Whether some state is looked at, one file at most is written, and that of one test alone; and what stands in
-/// place of the states is alone too.
-fn can_be_tested(litmus: &LitmusCommand<'_>) -> bool
-    ensures { result ≡ can_be_tested litmus.now }
-{
-    litmus.states >= 1
-        && !(litmus.image.is_some() && litmus.svg.is_some())
-        && is_written_alone(litmus)
-        && is_told_alone(litmus)
 }
 
 pub(crate) fn migrate_in<'a>(found: &ArgMatches<'a>) -> Option<MigrateCommand<'a>>

@@ -3,8 +3,9 @@
 //!
 //! Read in this order: `line` (what the words may ask for), `hart_count` (how many harts there are), `hints_wanted`
 //! (when hints are told), `files` (the files that they name), `words` (how they are read), `found_commands` (what was
-//! found for each command), `found_values` (what for one option), `several_tests` (litmus tests of which there are several), `chart_ends` (where a chart begins and ends), `themes` (a picture's
-//! colours),
+//! found for each command), `outcome_options` and `test_orders` (whether those of `outcomes` and of a litmus test go
+//! together, and what that asks of an order), `found_values` (what for one option), `several_tests` (litmus tests of
+//! which there are several), `chart_ends` (where a chart begins and ends), `themes` (a picture's colours),
 //! `clap_errors` (what is made of an error of `clap`), `refused_words`, `refused_options` and
 //! `refused_together` (why words are refused, for a person), `description` (the command line as it is described to
 //! `clap`), `arguments` (its arguments and options), `forms` (what stands behind it of files), `version` (which one it
@@ -26,6 +27,7 @@ mod hart_count;
 mod hints_wanted;
 mod limits;
 mod line;
+mod outcome_options;
 mod ranges;
 mod refused_options;
 mod refused_together;
@@ -33,6 +35,7 @@ mod refused_words;
 mod roles;
 mod settings;
 mod several_tests;
+mod test_orders;
 mod themes;
 mod version;
 mod words;

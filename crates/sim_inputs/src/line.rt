@@ -295,6 +295,24 @@ pub struct LitmusCommand<'a> {
     /// `--svg FILE`: the file that a picture is written to, of why the condition holds of none. There is
     /// one of the two at most.
     pub svg: Option<&'a str>,
+    /// `--outcome N`: the state whose order is written, by its line from 1. Then there is one of the four files
+    /// below, and neither of the two above; and else none.
+    pub outcome: Option<u32>,
+    /// `--witness FILE`: the file that the order is written to.
+    pub witness: Option<&'a str>,
+    /// `--script FILE`: the file that the order's script is written to.
+    pub script: Option<&'a str>,
+    /// `--story FILE`: the file that the order's story is written to.
+    pub story: Option<&'a str>,
+    /// `--story-svg FILE`: the file that a picture of that story is written to.
+    pub story_svg: Option<&'a str>,
+    /// `--theme THEME`: the colours of that picture. There are none without one.
+    pub theme: Option<Theme>,
+    /// `--all`: each instruction has a row in the story. There is none without a story.
+    pub all: bool,
+    /// `--run N`: so many runs of the core, 1 to `MOST_TIMES`, are made and counted by their states. Then there is no
+    /// `why`, no `svg` and no `outcome`.
+    pub run: Option<u32>,
     /// `--summary`: a line a test is printed in place of its states.
     pub summary: bool,
     /// `--expect FILE`: the file of a summary, with which that of the tests is compared.

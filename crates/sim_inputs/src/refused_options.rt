@@ -29,7 +29,7 @@ macro_rules! number_option {
 }
 
 /// The options that have a number, in the order in which they are looked at.
-static NUMBERS: [NumberOption; 9] = [
+static NUMBERS: [NumberOption; 10] = [
     number_option!("harts", 1, MOST_HARTS as u32),
     number_option!("hart", 0, MOST_HARTS as u32 - 1),
     number_option!("width", 1, 10_000),
@@ -39,6 +39,7 @@ static NUMBERS: [NumberOption; 9] = [
     number_option!("seed", 0, u32::MAX),
     number_option!("states", 1, u32::MAX),
     number_option!("outcome", 1, u32::MAX),
+    number_option!("run", 1, 1_000_000),
 ];
 
 /// The options and the argument that name a file or a folder that is written, and so no dash.

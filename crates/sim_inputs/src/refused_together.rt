@@ -17,8 +17,12 @@ const fn refused(words: &'static str, expected: &'static str) -> Option<RefusedO
 /// What may stand in place of two options of which each excludes the other.
 const ONE_OF_THEM: &str = "one of them at most";
 
-/// What may stand beside an option that has a file of one test written.
+/// What may stand beside an option by which something is made of one test.
 const ONE_TEST: &str = "one test beside it, and no list";
+
+/// What may stand beside what names an order.
+const AN_ORDERS_FILE: &str =
+    "--witness FILE, --script FILE, --story FILE or --story-svg FILE beside it";
 
 /// The first options of a command that don't go together, if there are some.
 pub(crate) fn refused_together(command: &str, found: &ArgMatches<'_>) -> Option<RefusedOptions> {
@@ -28,9 +32,6 @@ pub(crate) fn refused_together(command: &str, found: &ArgMatches<'_>) -> Option<
         "plain" => refused_of_plain(found),
         "chart" if has(found, "svg") && has(found, "kanata") => {
             refused("--svg --kanata", ONE_OF_THEM)
-        }
-        "litmus" if has(found, "image") && has(found, "svg") => {
-            refused("--image --svg", ONE_OF_THEM)
         }
         "litmus" => refused_of_tests(found),
         "outcomes" => refused_of_outcomes(found),
@@ -44,31 +45,6 @@ fn has(found: &ArgMatches<'_>, name: &str) -> bool {
         Some(value) => value != "false",
         None => false,
     }
-}
-
-/// A file that is written beside several tests, two things in place of the states, and standard input among several.
-fn refused_of_tests(found: &ArgMatches<'_>) -> Option<RefusedOptions> {
-    let (summary, expect) = (has(found, "summary"), has(found, "expect"));
-    if summary && expect {
-        return refused("--summary --expect", ONE_OF_THEM);
-    }
-    let is_several = are_several(found);
-    let words = match (has(found, "image"), has(found, "svg"), has(found, "why")) {
-        (true, _, _) if is_several => return refused("--image", ONE_TEST),
-        (_, true, _) if is_several => return refused("--svg", ONE_TEST),
-        (true, _, _) if summary => "--image --summary",
-        (true, _, _) if expect => "--image --expect",
-        (_, true, _) if summary => "--svg --summary",
-        (_, true, _) if expect => "--svg --expect",
-        (_, _, true) if summary => "--why --summary",
-        (_, _, true) if expect => "--why --expect",
-        _ if is_several && names_input(found) => return refused(
-            "-",
-            "the names of files, where there are several",
-        ),
-        _ => return None,
-    };
-    refused(words, ONE_OF_THEM)
 }
 
 fn refused_of_runs(found: &ArgMatches<'_>) -> Option<RefusedOptions> {
@@ -174,6 +150,112 @@ fn refused_of_outcomes(found: &ArgMatches<'_>) -> Option<RefusedOptions> {
     None
 }
 
+/// Two files of a test, what is asked of its states beside runs of the core, what is of one test beside several, and what
+/// `outcomes` refuses of an order.
+fn refused_of_tests(found: &ArgMatches<'_>) -> Option<RefusedOptions> {
+    if let Some(words) = two_of_one_test(found) {
+        return refused(words, ONE_OF_THEM);
+    }
+    match refused_of_several(found) {
+        Some(refused) => Some(refused),
+        None => refused_of_test_orders(found),
+    }
+}
+
+/// Two options of one test that don't stand side by side.
+fn two_of_one_test(found: &ArgMatches<'_>) -> Option<&'static str> {
+    let (run, why) = (has(found, "run"), has(found, "why"));
+    let (image, svg, outcome) = (
+        has(found, "image"),
+        has(found, "svg"),
+        has(found, "outcome"),
+    );
+    match (run, why, image, svg, outcome) {
+        (true, true, _, _, _) => Some("--run --why"),
+        (true, false, _, true, _) => Some("--run --svg"),
+        (true, false, _, false, true) => Some("--run --outcome"),
+        (_, _, true, true, _) => Some("--image --svg"),
+        (_, _, true, false, true) => Some("--image --outcome"),
+        (_, _, false, true, true) => Some("--svg --outcome"),
+        _ => None,
+    }
+}
+
+/// What is of one test beside several, two things in place of the states, and standard input among several.
+fn refused_of_several(found: &ArgMatches<'_>) -> Option<RefusedOptions> {
+    if has(found, "summary") && has(found, "expect") {
+        return refused("--summary --expect", ONE_OF_THEM);
+    }
+    let is_several = are_several(found);
+    let words = of_one_test(found);
+    if is_several && !words.is_empty() {
+        return refused(words, ONE_TEST);
+    }
+    if let Some(words) = beside_lines(found) {
+        return refused(words, ONE_OF_THEM);
+    }
+    if is_several && names_input(found) {
+        return refused("-", "the names of files, where there are several");
+    }
+    None
+}
+
+/// The option by which something is made of one test; nothing where there is none.
+fn of_one_test(found: &ArgMatches<'_>) -> &'static str {
+    if has(found, "image") {
+        "--image"
+    } else if has(found, "svg") {
+        "--svg"
+    } else if has(found, "outcome") {
+        "--outcome"
+    } else if has(found, "run") {
+        "--run"
+    } else {
+        ""
+    }
+}
+
+/// What doesn't stand beside lines that are printed in place of the states, with the option that has them printed.
+fn beside_lines(found: &ArgMatches<'_>) -> Option<&'static str> {
+    let (summary, expect) = (has(found, "summary"), has(found, "expect"));
+    if !summary && !expect {
+        return None;
+    }
+    match (of_one_test(found), summary) {
+        ("--image", true) => Some("--image --summary"),
+        ("--image", false) => Some("--image --expect"),
+        ("--svg", true) => Some("--svg --summary"),
+        ("--svg", false) => Some("--svg --expect"),
+        ("--outcome", true) => Some("--outcome --summary"),
+        ("--outcome", false) => Some("--outcome --expect"),
+        ("--run", true) => Some("--run --summary"),
+        ("--run", false) => Some("--run --expect"),
+        (_, true) if has(found, "why") => Some("--why --summary"),
+        (_, false) if has(found, "why") => Some("--why --expect"),
+        _ => None,
+    }
+}
+
+/// An order without its file or with two, a file without an order, and what says more of a story without one.
+fn refused_of_test_orders(found: &ArgMatches<'_>) -> Option<RefusedOptions> {
+    if let Some(refused) = refused_of_files(found) {
+        return Some(refused);
+    }
+    let files = written_order(found);
+    match has(found, "outcome") {
+        true if files.is_empty() => return refused("--outcome", AN_ORDERS_FILE),
+        false if !files.is_empty() => return refused(files, "--outcome N beside it"),
+        _ => {}
+    }
+    if let Some(refused) = refused_of_themes(found) {
+        return Some(refused);
+    }
+    if has(found, "all") && !has(found, "story") {
+        return refused("--all", "--story FILE beside it");
+    }
+    None
+}
+
 /// Two questions, and `--first` without a condition. Of runs there are but three, and no `--first`.
 fn refused_of_questions(found: &ArgMatches<'_>) -> Option<RefusedOptions> {
     let exists = has(found, "exists");
@@ -209,10 +291,7 @@ fn refused_of_orders(found: &ArgMatches<'_>) -> Option<RefusedOptions> {
         (false, true) => "--stuck",
     };
     if files.is_empty() {
-        return refused(
-            words,
-            "--witness FILE, --script FILE, --story FILE or --story-svg FILE beside it",
-        );
+        return refused(words, AN_ORDERS_FILE);
     }
     None
 }

@@ -33,6 +33,18 @@ impl Settings {
         }
         settings
     }
+
+    /// A copy of the settings.
+    pub fn copied(&self) -> Settings
+        ensures { result ≡ self.now }
+    {
+        Settings {
+            config: self.config.copied(),
+            ram: self.ram,
+            limit: self.limit,
+            turns: self.turns,
+        }
+    }
 }
 
 /// The settings where a configuration says nothing: one hart, one actor of each role, 64 extra

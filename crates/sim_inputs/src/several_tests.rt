@@ -3,7 +3,7 @@
 ghost use Rattle.std.specs.Prelude.{◌≡◌, IfOk, map};
 ghost use Rattle.std.specs.List.{list_any};
 ghost use Rattle.clap.specs.Words.{found_of, rows_of};
-ghost use Rattle.sim_inputs.specs.SeveralTests.{are_several, is_summed, is_told_alone, is_written_alone};
+ghost use Rattle.sim_inputs.specs.SeveralTests.{are_several, is_made_alone, is_of_one, is_summed, is_told_alone};
 ghost use Rattle.sim_inputs.specs.SeveralTests.{names_input, names_list, tests_in, tests_named};
 ghost use Rattle.sim_inputs.specs.Files.{is_standard_input};
 
@@ -104,11 +104,22 @@ impl LitmusCommand<'_> {
     }
 }
 
-/// Whether a file, where one is written, is of one test alone, whose states are printed.
-pub(crate) fn is_written_alone(litmus: &LitmusCommand<'_>) -> bool
-    ensures { result ≡ is_written_alone litmus.now }
+/// Whether a file that is written, the order of a state, or runs of the core are of one test alone, whose states are
+/// printed.
+pub(crate) fn is_made_alone(litmus: &LitmusCommand<'_>) -> bool
+    ensures { result ≡ is_made_alone litmus.now }
 {
-    !(litmus.image.is_some() || litmus.svg.is_some()) || !(litmus.several || litmus.is_summed())
+    !is_of_one(litmus) || !(litmus.several || litmus.is_summed())
+}
+
+/// Whether something is made that is of one test.
+fn is_of_one(litmus: &LitmusCommand<'_>) -> bool
+    ensures { result ≡ is_of_one litmus.now }
+{
+    litmus.image.is_some()
+        || litmus.svg.is_some()
+        || litmus.outcome.is_some()
+        || litmus.run.is_some()
 }
 
 /// Whether what stands in place of the states is one thing, without reasons behind it.

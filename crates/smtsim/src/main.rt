@@ -4,7 +4,7 @@
 #![tactic(auto)]
 
 use actors::StaticPredictor;
-use program_io::{Program, Progress, hold_closed_streams, perform_words};
+use program_io::{Program, Progress, hold_closed_streams, perform_words, refuse_unopened};
 use std::io::{BufWriter, IsTerminal};
 use std::process::ExitCode;
 use std::{env, io};
@@ -26,6 +26,11 @@ fn main(rt: HostRuntime) -> ExitCode {
         on_terminal,
         alloc: rt.alloc(),
     };
-    let out = BufWriter::new(rt.alloc(), io::writer(&rt));
-    ExitCode::from(perform_words(&program, env::args(&rt), out, &mut err))
+    match BufWriter::new(rt.alloc(), io::writer(&rt)) {
+        Ok(out) => {
+            let performed = perform_words(&program, env::args(&rt), out, &mut err);
+            ExitCode::from(performed.status)
+        }
+        Err(_) => ExitCode::from(refuse_unopened(&mut err)),
+    }
 }

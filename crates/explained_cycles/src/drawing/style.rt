@@ -1,7 +1,7 @@
 //! The style of a picture, and which colour is which relation's.
 
+use crate::cycle_scene::RELATIONS;
 use crate::naming::relation_name;
-use litmus_cycles::Relation;
 use std::io;
 use std::io::Write;
 
@@ -12,16 +12,16 @@ pub(super) const STYLE: &str = "text{font:12px monospace;fill:#1b1b1b}
 .page{fill:#ffffff}
 .far{fill:#5b5b5b}
 .box{fill:#f4f4f4;stroke:#8a8a8a}
-.start{fill:#ffffff;stroke:#8a8a8a;stroke-dasharray:3 2}
+.start,.end{fill:#ffffff;stroke:#8a8a8a;stroke-dasharray:3 2}
 .mark{font-weight:bold;text-anchor:middle}
 .mark,.hart{stroke:#ffffff;stroke-width:4;paint-order:stroke}
-.arrow{fill:none;stroke-width:1.2}
+.arrow{fill:none;stroke-width:1.7;stroke-linejoin:round}
 .thick{stroke-width:3.2}
 .po{stroke:#6a6a6a}
 .rf{stroke:#d55e00}
-.co{stroke:#0072b2}
-.fr{stroke:#009e73}
-.breaks{stroke:#cc79a7}
+.co{stroke:#0072b2;stroke-dasharray:9 4}
+.fr{stroke:#009e73;stroke-dasharray:3 3}
+.breaks{stroke:#cc79a7;stroke-dasharray:9 3 2 3}
 .po-is{fill:#6a6a6a}
 .rf-is{fill:#d55e00}
 .co-is{fill:#0072b2}
@@ -32,7 +32,7 @@ text{fill:#ececec}
 .page{fill:#16181d}
 .far{fill:#a2a7b0}
 .box{fill:#23262e;stroke:#747b88}
-.start{fill:#16181d;stroke:#747b88}
+.start,.end{fill:#16181d;stroke:#747b88}
 .mark,.hart{stroke:#16181d}
 .po{stroke:#a2a7b0}
 .po-is{fill:#a2a7b0}
@@ -45,15 +45,6 @@ text{fill:#ececec}
 .breaks-is{fill:#e0a0c4}
 }
 ";
-
-/// All relations, in the order in which they are told.
-pub(super) const RELATIONS: [Relation; 5] = [
-    Relation::ProgramOrder,
-    Relation::ReadsFrom,
-    Relation::Coherence,
-    Relation::FromRead,
-    Relation::Breaks,
-];
 
 /// The point of an arrow of each relation, and a line that says which colour is whose.
 pub(super) fn write_legend<W: Write>(out: &mut W) -> io::Result<()> {

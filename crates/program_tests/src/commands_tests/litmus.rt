@@ -74,7 +74,7 @@ fn a_test_that_waits_for_ever_is_stuck(rt: HostRuntime) {
 
 #[test]
 fn why_it_has_no_fourth_is_told(rt: HostRuntime) {
-    let like = "Test SB Allowed\n*Observation SB Never 0 3\nalways can end\n*each has a cycle*";
+    let like = "Test SB Allowed\n*Observation SB Never 0 3\nalways can end\n*it has a cycle*";
     comes_to(&rt, SB, true, (0, like, ""), rt.alloc());
 }
 

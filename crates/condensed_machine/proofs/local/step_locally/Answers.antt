@@ -17,7 +17,7 @@ advance-requires c =
     (c.op_at-op.ensures.in_range c.args.start.now.image (byte_in c.args.start.now.image) c.requires.code)
 
 pub returns-in-Some : goal.returns-in-Some
-returns-in-Some c = λ setup h s image inside holds is.
+returns-in-Some c = λ setup tables h s allows image inside holds is.
     let x = c.args.hart.now in
     let start = c.args.start.now in
     let op = c.op_at-op.result in
@@ -30,7 +30,7 @@ returns-in-Some c = λ setup h s image inside holds is.
     (c.compute-computed.ensures.value
     ∙ computed_same setup s start h x (sym image) is op
     (c.op_at-op.ensures.in_range start.image (byte_in start.image) code) of_op)
-    x c.advance.new.self (ap code_writable image ∙ c.requires.fixed) inside is
+    tables x c.advance.new.self allows (ap code_writable image ∙ c.requires.fixed) inside is
     (sym c.is_going.ensures ∙ c.if-not-is_going.false) (sym c.in-Some.ensures.local)
     c.in-Some.ensures.effect
     (record {

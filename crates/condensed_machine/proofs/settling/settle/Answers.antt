@@ -7,19 +7,19 @@ use Rattle.condensed_machine.proofs.Instructions.{stands_written}
 use Rattle.condensed_machine.proofs.settling.settle.Goals as goal
 
 pub loop-steps-init : goal.loop-steps-init
-loop-steps-init c = λ setup h s image inside holds is. stays_put setup h s c.args.hart.now is
+loop-steps-init c = λ setup tables h s allows image inside holds is. stays_put setup tables h s c.args.hart.now is
 
 pub loop-steps-preserved : goal.loop-steps-preserved
-loop-steps-preserved c = λ setup h s image inside holds is.
+loop-steps-preserved c = λ setup tables h s allows image inside holds is.
     let now = c.args.start.now.image in
     let y = c.loop-steps.hart in
     let z = c.step_locally.new.hart in
     let step : LeadsLocally now y 1 z =
     subst (λ (made : Bool). StepsLocally now y made z) c.if-not-step_locally.false c.step_locally.ensures in
-    let first = c.loop-steps.invariant setup h s image inside holds is in
-    goes_further setup h c.loop-steps.steps s y z first
-    (step setup h first.there image inside
-    (has_local setup (replicate c.loop-steps.steps h) s first.there holds first.local) first.agrees)
+    let first = c.loop-steps.invariant setup tables h s allows image inside holds is in
+    goes_further setup tables h c.loop-steps.steps s y z first
+    (step setup tables h first.there allows image inside
+    (has_local setup tables (replicate c.loop-steps.steps h) s first.there holds first.local) first.agrees)
 
 pub returns : goal.returns
 returns c =
@@ -44,7 +44,7 @@ returns-then-not-step_locally c =
 
 pub returns-then-writable : goal.returns-then-writable
 returns-then-writable c = record {
-  leads = λ setup h s image inside holds is. stays_put setup h s c.args.hart.now is;
+  leads = λ setup tables h s allows image inside holds is. stays_put setup tables h s c.args.hart.now is;
   few = omega arith;
   settled = λ fewer setup h s image holds is.
       stands_written setup s h (ap code_writable image ∙ (sym c.requires.writable ∙ c.if-writable.true));

@@ -1,15 +1,16 @@
 use Rattle.std.proofs.Common.{◌≡◌, List, get_or, ap, subst, ◌∙◌}
 use Rattle.std.proofs.lemmas.{List.get_or_default, Option.slice_get-get_or}
 use Rattle.std.proofs.lemmas.Result.{IfOk-weaker}
-use Rattle.changed_memory.specs.Shared.{Shared}
+use Rattle.elf_image.specs.Image.{byte_in}
+use Rattle.changed_memory.specs.Shared.{Shared, changed}
 use Rattle.condensed_machine.specs.{Decoded.shared_at, Decoded.no_shared}
 use Rattle.condensed_machine.specs.{Executing.SharedAfter, Tables.HasNumber, Tables.IsSharedAfter}
 use Rattle.condensed_machine.proofs.Coded.{code_after}
 use Rattle.condensed_machine.proofs.tables.number_shared.Goals as goal
 use Rattle.condensed_machine.proofs.tables.number_shared.Goals.{After-number_of_shared}
 
-behind : (c : After-number_of_shared) → SharedAfter c.args.start.now.image c.args.hart c.args.executed
-    (shared_at c.args.shared.now.keys c.args.before) c.advance.new.self
+behind : (c : After-number_of_shared) → SharedAfter c.args.start.now.image c.args.hart c.args.executed c.args.is_kept
+    (shared_at c.args.shared.now.keys c.args.before) c.rest_reservation.new.shared
 behind c =
     let before = shared_at c.args.shared.now.keys c.args.before in
     let one = c.index-as_slice-before.result in
@@ -17,22 +18,25 @@ behind c =
     c.in_ok-copy_from.ensures ∙ c.index-as_slice-before.is
     ∙ ap (λ (xs : List Shared). get_or xs c.args.before one) c.as_slice.ensures.keys
     ∙ get_or_default c.args.shared.now.keys c.args.before one no_shared c.requires.inside in
-    subst (λ (old : Shared). SharedAfter c.args.start.now.image c.args.hart c.args.executed old c.advance.new.self)
-    copied
+    let image = c.args.start.now.image in
+    let rested = c.rest_reservation.ensures in
+    subst (λ (old : Shared). SharedAfter image c.args.hart c.args.executed c.args.is_kept old
+    c.rest_reservation.new.shared) copied
     (record {
-      reserved = c.in_ok-advance.ensures.reserved;
-      bytes = c.in_ok-advance.ensures.bytes;
-      output = c.in_ok-advance.ensures.output;
+      reserved = λ g stays. rested.reserved g stays ∙ c.in_ok-advance.ensures.reserved g;
+      bytes = λ a.
+          ap (λ cs. changed cs a (byte_in image a)) rested.changes ∙ c.in_ok-advance.ensures.bytes a;
+      output = rested.output ∙ c.in_ok-advance.ensures.output;
     })
 
 pub returns-clause-number : goal.returns-clause-number
 returns-clause-number c =
     let image = c.args.start.now.image in
     let before = shared_at c.args.shared.now.keys c.args.before in
-    let after = c.advance.new.self in
+    let after = c.rest_reservation.new.shared in
     let table = c.number_of_shared.new.shared.keys in
     IfOk-weaker c.number_of_shared.result (HasNumber table after)
-    (IsSharedAfter image c.args.hart c.args.executed before table)
+    (IsSharedAfter image c.args.hart c.args.executed c.args.is_kept before table)
     (λ n has. record { after = after; has = has; is = behind (goal.at.returns-clause-number c).After-number_of_shared })
     c.number_of_shared.ensures.number
 
@@ -42,6 +46,6 @@ returns-clause-code c = λ codes.
     let old = c.args.shared.now.keys in
     let before = shared_at old c.args.before in
     c.number_of_shared.ensures.code image codes
-    (code_after image c.args.hart c.args.executed before c.advance.new.self c.requires.allowed
+    (code_after image c.args.hart c.args.executed c.args.is_kept before c.rest_reservation.new.shared c.requires.allowed
     (behind (goal.at.returns-clause-code c).After-number_of_shared)
     (codes c.args.before before (slice_get-get_or old c.args.before no_shared c.requires.inside)))

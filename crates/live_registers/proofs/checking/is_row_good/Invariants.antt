@@ -1,7 +1,7 @@
 use Rattle.std.specs.Prelude.{◌≡◌, ℕ, ◌<◌, true, false, ◌==◌}
 use Rattle.std.specs.List.{slice_index_or}
 use Rattle.rv_instr.specs.Kinds.{destination}
-use Rattle.outcome_laws.specs.Live.{reads_register, may_follow}
+use Rattle.outcome_laws.specs.Tables.{reads_register, may_follow}
 use Rattle.live_registers.specs.Table.{live_of}
 use Rattle.live_registers.proofs.checking.is_row_good.Given as goal
 

@@ -1,5 +1,4 @@
-use Rattle.outcome_laws.proofs.Search.{no_end_is_reached}
-use Rattle.outcome_laws.proofs.Settling.{each_can_end}
+use Rattle.outcome_laws.proofs.Settling.{no_end_is_reached, each_can_end}
 use Rattle.outcome_laws.proofs.laws.visited_states_tell_what_can_end.Goals as goal
 
 pub returns-clause-stuck : goal.returns-clause-stuck

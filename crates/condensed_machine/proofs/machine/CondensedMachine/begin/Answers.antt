@@ -6,9 +6,45 @@ use Rattle.changed_memory.specs.Shared.{Shared}
 use Rattle.condensed_machine.specs.Decoded.{hart_at, no_hart, no_shared, shared_at}
 use Rattle.condensed_machine.specs.Executing.{SharedAgrees}
 use Rattle.condensed_machine.specs.Numbering.{numbers_in}
-use Rattle.condensed_machine.proofs.Numbers.{hart_of_number}
+use Rattle.condensed_machine.specs.Machine.{HaveCode}
+use Rattle.condensed_machine.proofs.{Coded.code_at_start, Numbers.hart_of_number}
 use Rattle.condensed_machine.proofs.Turns.{settles_in_turn, shared_begins, numbers_within}
 use Rattle.condensed_machine.proofs.machine.CondensedMachine.begin.Goals as goal
+use Rattle.condensed_machine.proofs.machine.CondensedMachine.begin.Goals.{After-number_of_shared}
+
+codes : (c : After-number_of_shared) → HaveCode c.self.inside.program.image c.number_of_shared.new.shared.keys
+codes c =
+    let image = c.self.inside.program.image in
+    c.number_of_shared.ensures.code image c.self.invariant.code
+    (code_at_start image c.start-start.result c.start-start.ensures.changes)
+
+pub invariant_of-self : goal.invariant_of-self
+invariant_of-self c = record {
+  sound = c.self.invariant.sound;
+  zero = c.self.invariant.zero;
+  code = codes (goal.at.invariant_of-self c).After-number_of_shared;
+}
+
+pub invariant_of-self-in_err-numbers : goal.invariant_of-self-in_err-numbers
+invariant_of-self-in_err-numbers c = record {
+  sound = c.self.invariant.sound;
+  zero = c.first_harts.ensures.zero c.self.invariant.zero;
+  code = codes (goal.at.invariant_of-self-in_err-numbers c).After-number_of_shared;
+}
+
+pub invariant_of-self-in_err-state : goal.invariant_of-self-in_err-state
+invariant_of-self-in_err-state c = record {
+  sound = c.self.invariant.sound;
+  zero = c.first_harts.ensures.zero c.self.invariant.zero;
+  code = codes (goal.at.invariant_of-self-in_err-state c).After-number_of_shared;
+}
+
+pub invariant_of-self-2 : goal.invariant_of-self-2
+invariant_of-self-2 c = record {
+  sound = c.self.invariant.sound;
+  zero = c.first_harts.ensures.zero c.self.invariant.zero;
+  code = codes (goal.at.invariant_of-self-2 c).After-number_of_shared;
+}
 
 pub returns-clause-begun : goal.returns-clause-begun
 returns-clause-begun c = record {

@@ -1,4 +1,4 @@
-use Rattle.std.proofs.Common.{◌≡◌, ℕ, ◌<◌, length, refl, sym, ap, subst, ◌∙◌, arith}
+use Rattle.std.proofs.Common.{◌≡◌, ℕ, Bool, ◌<◌, length, refl, sym, ap, subst, ◌∙◌, arith}
 use Rattle.std.specs.Prelude.{slice_index, slice_set}
 use Rattle.elf_image.specs.Image.{ProgramImage}
 use Rattle.sc_machine.specs.declared.hart.Hart.{Hart}
@@ -7,7 +7,7 @@ use Rattle.condensed_machine.specs.Machine.{Machine, Grows, HasCode, HaveCode, H
 use Rattle.condensed_machine.specs.MachineInside.{machine_of}
 use Rattle.condensed_machine.specs.Decoded.{Knows, decoded, hart_in, numbers_of}
 use Rattle.condensed_machine.specs.{Numbering.HasNumbers, declared.state.State.State}
-use Rattle.condensed_machine.specs.Tables.{IsSharedAfter}
+use Rattle.condensed_machine.specs.{Tables.IsSharedAfter, Resting.keeps_reservation}
 use Rattle.condensed_machine.proofs.Coded.{code_at, codes_kept}
 use Rattle.condensed_machine.proofs.Made.{HasMoved, moved_from, made, known}
 use Rattle.condensed_machine.proofs.Numbers.{zero_in}
@@ -112,18 +112,22 @@ shared_is : (c : After-moved) → c.shared-shared.result.now ≡ (decoded (machi
 shared_is c = c.shared-shared.ensures ∙ ap (λ m. (decoded m c.args.state).shared) (sym c.self.view_is)
 
 shared_after : (c : After-moved) (next : State) → next.shared ≡ c.in_ok-shared_number.shared_number
-    → IsSharedAfter c.self.inside.program.image c.args.hart c.execute-executed.result c.shared-shared.result.now
+    → IsSharedAfter c.self.inside.program.image c.args.hart c.execute-executed.result
+    (keeps_reservation c.self.inside.program.live c.come_to_rest-way.new.state) c.shared-shared.result.now
     c.number_shared.new.shared.keys next.shared
 shared_after c next same =
+    let h = c.args.hart in
     let e = c.execute-executed.result in
+    let keeps = keeps_reservation c.self.inside.program.live c.come_to_rest-way.new.state in
+    let image = c.start.result.now.image in
     let table = c.number_shared.new.shared.keys in
     let before = (decoded (machine_of c.self.inside) c.args.state).shared in
-    subst (λ (i : ProgramImage). IsSharedAfter i c.args.hart e c.shared-shared.result.now table next.shared)
+    subst (λ (i : ProgramImage). IsSharedAfter i h e keeps c.shared-shared.result.now table next.shared)
     c.start.ensures.image
-    (subst (λ (old : Shared). IsSharedAfter c.start.result.now.image c.args.hart e old table next.shared)
-    (sym (shared_is c))
-    (subst (λ (n : ℕ). IsSharedAfter c.start.result.now.image c.args.hart e before table n) (sym same)
-    c.in_ok-shared_number.ensures.number))
+    (subst (λ (old : Shared). IsSharedAfter image h e keeps old table next.shared) (sym (shared_is c))
+    (subst (λ (n : ℕ). IsSharedAfter image h e keeps before table n) (sym same)
+    (subst (λ (kept : Bool). IsSharedAfter image h e kept before table c.in_ok-shared_number.shared_number)
+    c.keeps_reservation-is_kept.ensures c.in_ok-shared_number.ensures.number)))
 
 moved : (c : After-moved) (next : State) → slice_index c.hart.result.now.registers 0 ≡ 0
     → HasCode c.self.inside.program.image c.shared-shared.result.now

@@ -9,7 +9,7 @@ pub returns-clause-performed : goal.returns-clause-performed
 returns-clause-performed g c =
     let files = files_of c.args.line.now in
     let read = c.blank_comments.new.self in
-    read_performed c.args.self.now.at_terminal c.args.line.now c.typed_step.result _ (read_of read.config)
+    read_performed _ g.P.Predict.predicts c.args.self.now c.args.line.now c.typed_step.result _ _ _ _ (read_of read.config)
     (read_of read.program) (read_of c.of-read.result.second) (read_of read.lines)
     (read_of read.second) c.typed_step.ensures c.in_default.is
     (subst (λ (r : Read). IsReadAs files.config r) (sym (ap read_of c.blank_comments.ensures.config))
@@ -23,4 +23,4 @@ returns-clause-performed g c =
     (subst (λ (r : Read). IsReadAs files.lines r) (sym (ap read_of c.blank_comments.ensures.lines))
     (subst (λ (f : Files). IsReadAs f.lines (read_of c.of-read.result.lines)) c.files-files.ensures
     c.of-read.ensures.lines))
-    c.blank_comments.ensures.second c.perform_and_hint.ensures.refused
+    c.blank_comments.ensures.second c.perform_and_hint-status.ensures.refused c.perform_and_hint-status.ensures.comes

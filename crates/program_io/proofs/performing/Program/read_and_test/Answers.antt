@@ -7,10 +7,11 @@ use Rattle.program_io.proofs.performing.Program.read_and_test.Goals as goal
 pub returns : goal.returns
 returns g c =
     let read = c.of-read.result in
-    tested c.args.line.now c.args.litmus _ (read_of read.config) (read_of read.second) c.requires
+    tested c.args.line.now c.args.litmus _ _ _ (read_of read.config) (read_of read.second) c.requires
     (subst (λ (f : Files). IsReadAs f.config (read_of read.config)) c.files-files.ensures c.of-read.ensures.config)
     (subst (λ (f : Files). IsReadAs f.second (read_of read.second)) c.files-files.ensures c.of-read.ensures.second)
-    c.test_and_hint.ensures.known c.test_and_hint.ensures.refused
+    c.test_and_hint-status.ensures.known c.test_and_hint-status.ensures.ended
 
 pub returns-in-Err : goal.returns-in-Err
-returns-in-Err g c = nameless c.args.line.now c.args.litmus _ c.requires c.refuse.ensures
+returns-in-Err g c =
+    nameless c.args.line.now c.args.litmus _ _ _ c.requires c.refuse-status.ensures

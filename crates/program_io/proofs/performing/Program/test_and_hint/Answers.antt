@@ -1,12 +1,18 @@
-use Rattle.std.proofs.Common.{sym, None, Some}
+use Rattle.std.proofs.Common.{sym}
+use mathlib.Core.Logic.{inl, inr}
+use Rattle.program_io.proofs.OfSuites.{line_came}
 use Rattle.program_io.proofs.performing.Program.test_and_hint.Goals as goal
 
-pub returns-in-Ok-clause-refused : goal.returns-in-Ok-clause-refused
-returns-in-Ok-clause-refused g c = (None, tt)
+pub returns-in-Ok-clause-ended : goal.returns-in-Ok-clause-ended
+returns-in-Ok-clause-ended g c =
+    let lent = c.lent-inputs.ensures in
+    inr (rw (sym lent.config, sym lent.second) (line_came _ _ _ _ _ _ _ _ _ _ c.in-Ok.ensures.comes))
 
-pub returns-in-Err-clause-refused : goal.returns-in-Err-clause-refused
-returns-in-Err-clause-refused g c =
-    let lent = c.lent-inputs.ensures in (
-      Some c.in-Err.refused,
-      (sym c.refuse_line.ensures.status, rw (sym lent.config, sym lent.second) c.in-Err.ensures.refused),
-    )
+pub returns-in-Err-clause-ended : goal.returns-in-Err-clause-ended
+returns-in-Err-clause-ended g c =
+    let lent = c.lent-inputs.ensures in
+    inl (record {
+      why = c.in-Err.refused;
+      has_status = sym c.refuse_line.ensures.status;
+      refused = rw (sym lent.config, sym lent.second) c.in-Err.ensures.refused;
+    })

@@ -1,0 +1,4 @@
+pub mod Kinds
+pub mod Counting
+pub mod Text
+pub mod Sums

@@ -1,0 +1,130 @@
+"""How many states `smtsim outcomes` visits, by docs/DEFINITIONS.md ("The plain machine with numbered states").
+
+    python3 tools/expected/condensed.py IMAGE [--config FILE] [--watch LIST]
+        the number of states
+
+A hart's step is followed by its local ones: where the code may not be written, those that touch no memory and put
+nothing out, and those that end or stop the hart. Then a register counts as 0 that is neither watched nor may be read
+yet, and the hart has no reservation that it can't use. Both are found by the code alone, with JALR going anywhere; where
+the code may be written nothing is left out but of harts that don't go.
+"""
+
+import sys
+
+import every_order
+import image
+import inputs
+from instructions import NO_WORD, decode
+from outcomes import frozen, thawed
+from plain import Plain
+
+MOST_LOCAL_STEPS = 1000
+BRANCHES = ("beq", "bne", "blt", "bge", "bltu", "bgeu")
+REGISTERS = frozenset(range(1, 32))
+GOING = ("going",)
+
+
+def instruction(made, pc):
+    return decode(made.word(pc)) if made.has_word(pc) else NO_WORD
+
+
+def onward(i, pc):
+    """Where an instruction may go on; None stands for anywhere."""
+    if i.name in ("no word", "illegal"):
+        return ()
+    if i.name == "jalr":
+        return None
+    if i.name == "jal":
+        return (pc + i.imm & 0xFFFFFFFF,)
+    return (pc + 4,) if i.name not in BRANCHES else (pc + i.imm & 0xFFFFFFFF, pc + 4)
+
+
+class Code:
+    """Of each pc the registers that may be read yet, and whether a reservation may be used yet."""
+
+    def __init__(self, made):
+        self.is_written, self.live, self.kept = made.is_writable, {}, {}
+        self.words = {pc: instruction(made, pc) for pc in range(made.code, made.code + len(made.code_bytes), 4)}
+        while self.add_missing():
+            pass
+
+    def add_missing(self):
+        before = dict(self.live), dict(self.kept)
+        for pc, i in sorted(self.words.items(), reverse=True):
+            behind = onward(i, pc)
+            live = REGISTERS if behind is None else frozenset().union(*(self.live.get(to, ()) for to in behind))
+            kept = behind is None or any(self.kept.get(to, False) for to in behind)
+            self.live[pc] = (live - {i.rd} | {i.rs1, i.rs2}) - {0}
+            self.kept[pc] = i.kind == "sc" or (i.kind != "lr" and kept)
+        return (self.live, self.kept) != before
+
+    def is_live(self, pc, register):
+        return self.is_written or register in self.live.get(pc, ())
+
+    def is_kept(self, pc):
+        return self.is_written or self.kept.get(pc, False)
+
+
+def is_local(code, machine, hart):
+    """The hart's step ends or stops it, or neither touches memory nor puts a byte out."""
+    i = code.words.get(machine.pcs[hart], NO_WORD)
+    tried = thawed(machine.image, frozen(machine))
+    put = len(tried.output)
+    tried.step(hart)
+    return tried.statuses[hart] != GOING or (i.kind == "compute" and len(tried.output) == put)
+
+
+def settle(code, machine, hart, kept):
+    """Makes the hart's local steps, and drops what doesn't matter any more."""
+    for _ in range(0 if code.is_written else MOST_LOCAL_STEPS):
+        if machine.statuses[hart] != GOING or not is_local(code, machine, hart):
+            break
+        machine.step(hart)
+    pc, goes = machine.pcs[hart], machine.statuses[hart] == GOING
+    for register in REGISTERS - kept:
+        if not (goes and code.is_live(pc, register)):
+            machine.registers[hart][register] = 0
+    if not (goes and code.is_kept(pc)):
+        machine.reserved[hart] = None
+
+
+def state_of(machine):
+    """The state, as a value; a byte that is the image's own again counts as unchanged."""
+    machine.memory = {at: byte for at, byte in machine.memory.items() if byte != machine.image.byte(at)}
+    return frozen(machine)
+
+
+def states(made, harts, columns=()):
+    """How many states are visited, where this is watched."""
+    kept = {what[2] for _, what in columns if what[0] == "register"}
+    code, start = Code(made), Plain(made, harts)
+    for hart in range(harts):
+        settle(code, start, hart, kept)
+    seen, waiting = {state_of(start)}, [state_of(start)]
+    while waiting:
+        here = waiting.pop()
+        for hart in thawed(made, here).going():
+            machine = thawed(made, here)
+            machine.step(hart)
+            settle(code, machine, hart, kept)
+            there = state_of(machine)
+            if there not in seen:
+                seen.add(there)
+                waiting.append(there)
+    return len(seen)
+
+
+def main(words):
+    options, config = dict(zip(words[1::2], words[2::2])), b""
+    if "--config" in options:
+        with open(options["--config"], "rb") as file:
+            config = file.read()
+    settings = inputs.read_config(config)
+    with open(words[0], "rb") as file:
+        made = image.load(file.read(), settings["ram"])
+    print(states(made, settings["harts"], every_order.columns_of(options.get("--watch", ""), None)))
+    return 0
+
+
+if __name__ == "__main__":
+    sys.exit(main(sys.argv[1:]))
