@@ -77,10 +77,11 @@ class Machine:
         changed = self.read(memory, word) & ~(mask << shift) | (number & mask) << shift
         return tuple(sorted({**dict(memory), word: changed}.items()))
 
-    def without_registers(self, state):
+    def places_and_memory(self, state):
+        """What is surely no less than the program tells apart: it may drop registers, and reservations."""
         harts, memory = state
         changed = tuple((a, number) for a, number in memory if number != self.at_start.get(a, 0))
-        return tuple((stopped, place, reserved) for stopped, place, _, reserved in harts), changed
+        return tuple((stopped, place) for stopped, place, _, _ in harts), changed
 
     def fault(self, address, size, writes):
         """The cause with which an access of so many bytes stops its hart; None where it doesn't."""
@@ -218,7 +219,7 @@ def settled(machine, state, number):
 
 def bounds(test):
     """At least and at the most how many states there are where steps that no other hart can see are made at once: told
-    apart by all but the registers, and by all."""
+    apart by places and memory, and by all."""
     machine = Machine(test)
     state = machine.first()
     for number in range(len(test.code)):
@@ -232,7 +233,7 @@ def bounds(test):
                 if there not in seen:
                     seen.add(there)
                     waiting.append(there)
-    return len({machine.without_registers(state) for state in seen}), len(seen)
+    return len({machine.places_and_memory(state) for state in seen}), len(seen)
 
 
 def observed(machine, state):
