@@ -92,8 +92,8 @@ pub record HasPerformed {F S G P : Type 0} (has_failed : F → Bool) (predicts :
       × IsRefusal line.harts line.command config program (uncommented_for line.command second) lines reason
 
 -- What a line of litmus tests came to, which may be several, with its other files as they were read: the line itself was
--- refused, or what was printed is what the tests come to, of some texts: those that were read. (Of where they come from
--- nothing is said.)
+-- refused, or what was printed is what some tests come to, of some texts. (Of where they come from nothing is said, nor
+-- that there are any.)
 abbrev pub SuiteHasCome : LitmusCommand → Read → Read → Option (List ℕ) → Option (List ℕ) → ℕ → Type 0
 SuiteHasCome litmus config summary old new status = SuiteLineComesTo {S = Unit {0}} (λ source given after. Unit {0})
     (λ source refused after. Unit {0}) litmus config summary tt tt old new status
