@@ -1,3 +1,4 @@
+pub mod Canonical
 pub mod Changing
 pub mod Kept
 pub mod Writing

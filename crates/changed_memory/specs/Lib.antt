@@ -1,4 +1,5 @@
 pub mod Shared
+pub mod Canonical
 pub mod Places
 pub mod Same
 pub mod SameLaws

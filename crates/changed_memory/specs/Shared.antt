@@ -4,8 +4,7 @@ use Rattle.elf_image.specs.Image.{ProgramImage, byte_in}
 use Rattle.changed_memory.specs.declared.change.Change.{Change}
 
 -- The changes of bytes, of which the first of an address counts; by hart the address of the word
--- that it has reserved; the bytes put out. The code keeps the changes by rising address, one an
--- address at most, and none that is the image's own byte; no clause rests on that.
+-- that it has reserved; the bytes put out. The changes are kept in one form (`specs/Canonical`).
 pub record Shared : Type 0 where
   pub changes : List Change
   pub reserved : List (Option ℕ)

@@ -6,6 +6,7 @@ ghost use Rattle.smt_model.specs.Bytes.{byte_after};
 ghost use Rattle.smt_model.specs.Plain.{output_after};
 ghost use Rattle.smt_model.specs.Reservations.{reservation_after};
 ghost use Rattle.shared_memory.specs.Contents.{CanWrite, IsStart};
+ghost use Rattle.changed_memory.specs.Canonical.{IsCanonical};
 ghost use Rattle.changed_memory.specs.Shared.{byte_at, reserved_at};
 
 use crate::changes::write;
@@ -35,6 +36,8 @@ impl SharedState {
         ensures reserved { OnOk result ((h : ℕ) → reserved_at self.new h
             ≡ reservation_after op addr effect (h == hart) (reserved_at self.old h)) }
         ensures output { OnOk result (self.new.output ≡ output_after effect.out self.old.output) }
+        ensures canonical { OnOk result (IsCanonical start.now.image self.old
+            → IsCanonical start.now.image self.new) }
     {
         write(&mut self.changes, start, effect.write)?;
         reserve(&mut self.reserved, hart, op, addr, effect);

@@ -1,10 +1,11 @@
 //! A list of changes, by rising address.
 
-ghost use Rattle.std.specs.Prelude.{◌≡◌, ℕ, ◌==◌, if◌then◌else◌, None, IfSome, IfOk, IfErr, OnOk};
+ghost use Rattle.std.specs.Prelude.{◌≡◌, ◌≢◌, ℕ, ◌==◌, if◌then◌else◌, None, IfSome, IfOk, IfErr, OnOk};
 ghost use Rattle.std.specs.Option.{unwrap_or};
 ghost use Rattle.smt_model.specs.Bytes.{byte_after, written_byte};
 ghost use Rattle.smt_model.specs.Faults.{read_fault};
 ghost use Rattle.shared_memory.specs.Contents.{CanWrite, byte_of};
+ghost use Rattle.changed_memory.specs.Canonical.{AreCanonical};
 ghost use Rattle.changed_memory.specs.Places.{IsAt, IsPlace};
 ghost use Rattle.changed_memory.specs.Shared.{changed};
 
@@ -32,8 +33,10 @@ pub fn write(
     write: Option<Written>,
 ) -> Result<(), AllocError>
     requires { IfSome write (CanWrite start.now.image) }
-    ensures { OnOk result ((a : ℕ) → changed changes.new.items a (byte_of start.now a)
+    ensures bytes { OnOk result ((a : ℕ) → changed changes.new.items a (byte_of start.now a)
         ≡ byte_after write a (changed changes.old.items a (byte_of start.now a))) }
+    ensures canonical { OnOk result (AreCanonical (byte_of start.now) changes.old.items
+        → AreCanonical (byte_of start.now) changes.new.items) }
 {
     match write {
         Some(written) => write_number(changes, start, written),
@@ -48,8 +51,10 @@ fn write_number(
     written: Written,
 ) -> Result<(), AllocError>
     requires { CanWrite start.now.image written }
-    ensures { OnOk result ((a : ℕ) → changed changes.new.items a (byte_of start.now a)
+    ensures bytes { OnOk result ((a : ℕ) → changed changes.new.items a (byte_of start.now a)
         ≡ written_byte written a (changed changes.old.items a (byte_of start.now a))) }
+    ensures canonical { OnOk result (AreCanonical (byte_of start.now) changes.old.items
+        → AreCanonical (byte_of start.now) changes.new.items) }
 {
     let Written { addr, n, datum } = written;
     for index in 0..n {
@@ -68,8 +73,10 @@ fn set_byte(
     byte: u8,
 ) -> Result<(), AllocError>
     requires { read_fault start.now.image addr 1 ≡ None }
-    ensures { OnOk result ((a : ℕ) → changed changes.new.items a (byte_of start.now a)
+    ensures bytes { OnOk result ((a : ℕ) → changed changes.new.items a (byte_of start.now a)
         ≡ (if addr == a then byte else changed changes.old.items a (byte_of start.now a))) }
+    ensures canonical { OnOk result (AreCanonical (byte_of start.now) changes.old.items
+        → AreCanonical (byte_of start.now) changes.new.items) }
 {
     if byte == start.byte(addr) {
         take_out(changes, addr);
@@ -80,16 +87,20 @@ fn set_byte(
 
 /// Takes out what changes the byte at an address.
 fn take_out(changes: &mut Vec<Change>, addr: u32)
-    ensures { (a before : ℕ) → changed changes.new.items a before
+    ensures bytes { (a before : ℕ) → changed changes.new.items a before
         ≡ (if addr == a then before else changed changes.old.items a before) }
+    ensures canonical { (first : ℕ → ℕ) → AreCanonical first changes.old.items
+        → AreCanonical first changes.new.items }
 {
     changes.retain(|change| change.addr != addr);
 }
 
 /// Puts a change in at its place, instead of the one of its address where there is one.
 fn put_in(changes: &mut Vec<Change>, change: Change) -> Result<(), AllocError>
-    ensures { OnOk result ((a before : ℕ) → changed changes.new.items a before
+    ensures bytes { OnOk result ((a before : ℕ) → changed changes.new.items a before
         ≡ (if change.addr == a then change.byte else changed changes.old.items a before)) }
+    ensures canonical { OnOk result ((first : ℕ → ℕ) → change.byte ≢ first change.addr
+        → AreCanonical first changes.old.items → AreCanonical first changes.new.items) }
 {
     match find(changes.as_slice(), change.addr) {
         Ok(place) => changes[place] = change,

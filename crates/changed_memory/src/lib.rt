@@ -7,7 +7,7 @@
 //! Read in this order: `change` (a byte that has changed), `changes` (a list of them), `reserving`
 //! (what an instruction does with the reservations), `shared` (the state), `effect` (what an
 //! instruction finds there), `advance` (what it changes there), `keeping` (which instructions
-//! change nothing there).
+//! change nothing there), `laws` (equal memories are equal lists).
 #![tactic(auto)]
 
 mod advance;
@@ -15,6 +15,7 @@ mod change;
 mod changes;
 mod effect;
 mod keeping;
+pub mod laws;
 mod reserving;
 mod shared;
 

@@ -1,6 +1,7 @@
 //! What an instruction does with the reservations.
 
 ghost use Rattle.std.specs.Prelude.{◌≡◌, ℕ, ◌<◌, ◌==◌, if◌then◌else◌, slice_index_or, None};
+ghost use Rattle.std.specs.Prelude.{length};
 ghost use Rattle.numbers.specs.Sizes.{most_harts};
 ghost use Rattle.smt_model.specs.Reservations.{own_reservation, reservation_after};
 ghost use Rattle.smt_model.specs.Reservations.{reservation_after_write};
@@ -13,15 +14,22 @@ use shared_memory::{Reservations, end_on_word};
 /// word, SC ends its hart's reservation, and a write ends all on its word.
 pub fn reserve(reserved: &mut Reservations, hart: u8, op: Op, addr: u32, effect: Effect)
     requires { hart < most_harts }
-    ensures { (h : ℕ) → slice_index_or reserved.new h None
+    ensures after { (h : ℕ) → slice_index_or reserved.new h None
         ≡ reservation_after op addr effect (h == hart) (slice_index_or reserved.old h None) }
+    ensures room { length reserved.new ≡ most_harts }
 {
     if effect.next.is_last() {
         return;
     }
     reserve_own(reserved, hart, op.kind(), addr);
     end_written(reserved, effect.write);
+    have_room(reserved);
 }
+
+/// There is room for a reservation of each hart that may be. It is called for this clause.
+fn have_room(reserved: &Reservations)
+    ensures { length reserved.now ≡ most_harts }
+{}
 
 /// LR reserves the word at `addr`, and SC ends its hart's reservation.
 fn reserve_own(reserved: &mut Reservations, hart: u8, kind: Kind, addr: u32)

@@ -1,9 +1,11 @@
 ghost use Rattle.std.specs.Prelude.{◌≡◌, ℕ, ◌<◌, ◌==◌, if◌then◌else◌, None, [], IfOk, OnOk, is_some};
 ghost use Rattle.numbers.specs.Sizes.{most_harts};
+ghost use Rattle.elf_image.specs.Image.{ProgramImage};
 ghost use Rattle.shared_memory.specs.Contents.{IsStart};
 ghost use Rattle.smt_model.specs.Bytes.{number_at};
 ghost use Rattle.smt_model.specs.Faults.{read_fault};
 ghost use Rattle.rv_execute.specs.Access.{IsSize};
+ghost use Rattle.changed_memory.specs.Canonical.{IsCanonical};
 ghost use Rattle.changed_memory.specs.Shared.{byte_at, reserved_at};
 ghost use Rattle.changed_memory.specs.Same.{is_same, writes_of};
 ghost use Rattle.changed_memory.specs.SameLaws.{same_is_equivalence, same_is_partial, same_writes};
@@ -45,6 +47,7 @@ impl SharedState {
         ensures changes { result.changes ≡ [] }
         ensures reserved { (h : ℕ) → reserved_at result h ≡ None }
         ensures output { result.output ≡ [] }
+        ensures canonical { (image : ProgramImage) → IsCanonical image result }
     {
         SharedState {
             changes: Vec::new(alloc),
@@ -90,6 +93,8 @@ impl SharedState {
         ensures reserved { (h : ℕ) → reserved_at self.new h
             ≡ (if h == hart then None else reserved_at self.old h) }
         ensures output { self.new.output ≡ self.old.output }
+        ensures canonical { (image : ProgramImage) → IsCanonical image self.old
+            → IsCanonical image self.new }
     {
         self.reserved[usize::from(hart)] = None;
     }

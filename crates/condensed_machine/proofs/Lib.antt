@@ -6,6 +6,7 @@ pub mod Alike
 pub mod Numbers
 pub mod Moving
 pub mod Made
+pub mod Noted
 pub mod Zero
 pub mod Starting
 pub mod Turns

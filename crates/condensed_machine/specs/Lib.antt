@@ -7,6 +7,7 @@ pub mod MachineInside
 pub mod Decoded
 pub mod Executing
 pub mod Tables
+pub mod Moves
 pub mod Steps
 pub mod Beginning
 pub mod Learning

@@ -5,7 +5,8 @@
 //! Read in this order: `local` (a step that other harts don't see), `settling` (how a hart follows its own),
 //! `resting` (which registers it keeps), `program` (what is searched), `executed` and `tables` (what a step
 //! does, and the numbers of the parts of states), `state`, `numbering` (the numbers of a state's harts), `machine`,
-//! `stepping`, `begun` and `beginning` (the first state), `searching` (the machine as one that is searched).
+//! `moves` (what a step comes to, noted), `stepping`, `begun` and `beginning` (the first state), `searching` (the
+//! machine as one that is searched).
 #![tactic(auto)]
 
 mod beginning;
@@ -13,6 +14,7 @@ mod begun;
 mod executed;
 mod local;
 mod machine;
+mod moves;
 mod numbering;
 mod program;
 mod resting;

@@ -1,20 +1,21 @@
-ghost use Rattle.std.specs.Prelude.{◌≡◌, ◌↔◌, ◌<◌, ◌≤◌, ℕ, Err, false, IfOk, None, IsTrue, length};
+ghost use Rattle.std.specs.Prelude.{◌≡◌, ◌↔◌, ◌<◌, ◌≤◌, ℕ, Err, false, IfOk, None, IsTrue, length, slice_index};
 ghost use Rattle.numbers.specs.Sizes.{most_harts};
 ghost use Rattle.sc_machine.specs.Steps.{are_harts};
 ghost use Rattle.sc_machine.specs.declared.refused.PlainRefused.TheVariants.{Harts};
 ghost use Rattle.rv_execute.specs.Access.{IsSize};
 ghost use Rattle.smt_model.specs.Bytes.{number_at};
 ghost use Rattle.smt_model.specs.Faults.{read_fault};
-ghost use Rattle.condensed_machine.specs.Decoded.{Knows, decoded, hart_in, state_of};
+ghost use Rattle.condensed_machine.specs.Decoded.{Knows, decoded, hart_at, hart_in, numbers_of, shared_at, state_of};
 ghost use Rattle.condensed_machine.specs.Machine.{IsNew};
 
+use crate::moves::{MoveFrom, MoveTo};
 use crate::numbering::number_in;
 use crate::program::Program;
 use crate::resting::REGISTERS;
 use crate::state::{FAR_HARTS, State};
 use changed_memory::SharedState;
 use elf_image::Image;
-use indexmap::IndexSet;
+use indexmap::{IndexMap, IndexSet};
 use numbers::Reg;
 use numbers::sizes::MOST_HARTS;
 use sc_machine::{Hart, PlainRefused};
@@ -32,6 +33,8 @@ pub struct CondensedMachine {
     /// The numbers of the harts that stand in a state together.
     pub(crate) far_harts: IndexSet<[u32; FAR_HARTS]>,
     pub(crate) shared_states: IndexSet<SharedState>,
+    /// What each step came to that was made.
+    pub(crate) moves: IndexMap<MoveFrom, MoveTo>,
     /// Where the shared parts behind a step are made, before they are looked up.
     pub(crate) scratch: SharedState,
     pub(crate) alloc: Global,
@@ -81,6 +84,7 @@ impl CondensedMachine {
             hart_states: IndexSet::new(alloc),
             far_harts: IndexSet::new(alloc),
             shared_states: IndexSet::new(alloc),
+            moves: IndexMap::new(alloc),
             scratch: SharedState::start(alloc),
             alloc,
         }
@@ -149,6 +153,32 @@ impl CondensedMachine {
         ensures { result.now ≡ hart_in self.now state hart }
     {
         &self.hart_states.as_slice()[number_in(&self.far_harts, state, hart) as usize]
+    }
+
+    /// The hart with a number.
+    pub(crate) fn numbered_hart(&self, number: u32) -> &Hart
+        requires { number < length self.now.hart_states }
+        ensures { result.now ≡ hart_at self.now.hart_states number }
+    {
+        &self.hart_states.as_slice()[number as usize]
+    }
+
+    /// The shared parts with a number.
+    pub(crate) fn numbered_shared(&self, number: u32) -> &SharedState
+        requires { number < length self.now.shared_states }
+        ensures { result.now ≡ shared_at self.now.shared_states number }
+    {
+        &self.shared_states.as_slice()[number as usize]
+    }
+
+    /// The number of a hart of a state.
+    pub(crate) fn hart_number(&self, state: State, hart: u8) -> u32
+        requires known { Knows self.now state }
+        requires hart { hart < self.now.program.harts }
+        ensures value { result ≡ slice_index (numbers_of self.now state) hart }
+        ensures within { result < length self.now.hart_states }
+    {
+        number_in(&self.far_harts, state, hart)
     }
 
     /// What the harts of a state share.

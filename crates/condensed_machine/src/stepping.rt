@@ -2,13 +2,14 @@
 
 ghost use Rattle.std.specs.Prelude.{◌≡◌, ◌<◌, IfOk, IfSome};
 ghost use Rattle.condensed_machine.specs.Decoded.{Knows};
-ghost use Rattle.condensed_machine.specs.Machine.{Grows};
+ghost use Rattle.condensed_machine.specs.Machine.{Grows, IsSound};
+ghost use Rattle.condensed_machine.specs.Numbering.{HasMoved};
 ghost use Rattle.condensed_machine.specs.Steps.{Steps};
 
 use crate::machine::CondensedMachine;
+use crate::moves::{MoveFrom, MoveTo};
 use crate::numbering::moved;
 use crate::state::State;
-use crate::tables::{number_hart, number_shared};
 use searches::Step;
 use std::alloc::AllocError;
 
@@ -26,26 +27,34 @@ impl CondensedMachine {
         ensures steps { IfOk result (Steps self.new state hart) }
         ensures knows { IfOk result (λ next. IfSome next (λ step. Knows self.new step.state)) }
     {
-        let mut own = *self.hart(state, hart);
-        if !own.is_going() {
+        if !self.hart(state, hart).is_going() {
             return Ok(None);
         }
-        let shared = self.shared(state);
-        let executed = self.program.execute(shared, hart, &mut own);
-        let way = self.program.come_to_rest(&mut own);
-        let is_kept = self.program.keeps_reservation(&own);
-        let number = number_hart(&mut self.hart_states, own)?;
-        let shared_number = number_shared(
-            &mut self.shared_states,
-            &mut self.scratch,
-            self.program.start(),
-            state.shared,
+        let number = self.hart_number(state, hart);
+        let shared = state.shared;
+        let to = self.move_from(MoveFrom {
             hart,
-            executed,
-            is_kept,
-            self.alloc,
-        )?;
-        let next = moved(&mut self.far_harts, state, hart, number, shared_number)?;
-        Ok(Some(Step { state: next, way }))
+            number,
+            shared,
+        })?;
+        let next = self.moved_to(state, hart, to)?;
+        Ok(Some(Step {
+            state: next,
+            way: to.way,
+        }))
+    }
+
+    /// The state behind a move of a hart. Errors: want of memory.
+    fn moved_to(&mut self, state: State, hart: u8, to: MoveTo) -> Result<State, AllocError>
+        requires hart { hart < self.old.program.harts }
+        requires known { Knows self.old state }
+        ensures grows { Grows self.old self.new }
+        ensures harts { self.new.hart_states ≡ self.old.hart_states }
+        ensures shared { self.new.shared_states ≡ self.old.shared_states }
+        ensures sound { IsSound self.new.program }
+        ensures moved { IfOk result
+            (HasMoved self.old.far_harts self.new.far_harts state hart to.number to.shared) }
+    {
+        moved(&mut self.far_harts, state, hart, to.number, to.shared)
     }
 }

@@ -98,6 +98,38 @@ fn a_step_is_followed_by_local_ones(rt: HostRuntime) {
     }
 }
 
+/// Whether a step that is asked for again is the one that was made; and whether that of the other hart, from the same
+/// numbers, is one of that hart, from there and from behind the first.
+fn is_made_once(alloc: Global) -> Option<(bool, bool)> {
+    let file = file_of(&COUNTER, 0, alloc).ok()?;
+    let image = image_of(file.as_slice(), 65536, alloc)?;
+    let Ok(mut machine) = CondensedMachine::new(&image, 2, [false; 32], alloc) else {
+        return None;
+    };
+    let Ok(begun) = machine.begin() else {
+        return None;
+    };
+    let first = step_of(&mut machine, begun.state, 0)?;
+    let again = step_of(&mut machine, begun.state, 0)?;
+    let other = step_of(&mut machine, begun.state, 1)?;
+    let zero_then_one = step_of(&mut machine, first.state, 1)?;
+    let one_then_zero = step_of(&mut machine, other.state, 0)?;
+    let is_same = first.state == again.state && first.way == again.way;
+    let is_its_own = other.state != first.state && zero_then_one.state == one_then_zero.state;
+    Some((is_same, is_its_own))
+}
+
+#[test]
+fn a_step_is_made_once_for_each_hart(rt: HostRuntime) {
+    match is_made_once(rt.alloc()) {
+        None => holds(&rt, "memory", false),
+        Some((is_same, is_its_own)) => {
+            holds(&rt, "same", is_same);
+            holds(&rt, "own", is_its_own);
+        }
+    }
+}
+
 /// Whether the state behind a first LR is the one before it.
 fn comes_back(alloc: Global) -> Option<bool> {
     let file = file_of(&RESERVING, 0, alloc).ok()?;

@@ -1,6 +1,9 @@
-use Rattle.changed_memory.specs.Places.{IsClear}
+use Rattle.changed_memory.specs.Places.{AreLower, IsClear}
 use Rattle.changed_memory.proofs.changes.find.Given as goal
 
--- no change so far is of the address
+-- each change so far is of a lower address
 abbrev pub invariant-loop-place : goal.invariant-loop-place
-invariant-loop-place l = IsClear l.changes l.addr l.place
+invariant-loop-place l = record {
+  clear : IsClear l.changes l.addr l.place;
+  lower : AreLower l.changes l.addr l.place;
+}

@@ -7,10 +7,11 @@ use Rattle.condensed_machine.specs.Decoded.{hart_at, no_hart, no_shared, shared_
 use Rattle.condensed_machine.specs.Executing.{SharedAgrees}
 use Rattle.condensed_machine.specs.Numbering.{numbers_in}
 use Rattle.condensed_machine.specs.Machine.{HaveCode}
-use Rattle.condensed_machine.proofs.{Coded.code_at_start, Numbers.hart_of_number}
+use Rattle.condensed_machine.specs.Moves.{AreMoves}
+use Rattle.condensed_machine.proofs.{Coded.code_at_start, Noted.moves_stay, Numbers.hart_of_number}
 use Rattle.condensed_machine.proofs.Turns.{settles_in_turn, shared_begins, numbers_within}
 use Rattle.condensed_machine.proofs.machine.CondensedMachine.begin.Goals as goal
-use Rattle.condensed_machine.proofs.machine.CondensedMachine.begin.Goals.{After-number_of_shared}
+use Rattle.condensed_machine.proofs.machine.CondensedMachine.begin.Goals.{After-number_of_shared, After-first_harts}
 
 codes : (c : After-number_of_shared) → HaveCode c.self.inside.program.image c.number_of_shared.new.shared.keys
 codes c =
@@ -18,11 +19,26 @@ codes c =
     c.number_of_shared.ensures.code image c.self.invariant.code
     (code_at_start image c.start-start.result c.start-start.ensures.changes)
 
+moves_first : (c : After-number_of_shared) → AreMoves c.self.inside.program c.self.inside.hart_states.keys
+    c.number_of_shared.new.shared.keys c.self.inside.moves.entries
+moves_first c =
+    moves_stay c.self.inside.program c.self.inside.hart_states.keys c.self.inside.hart_states.keys
+    c.self.inside.shared_states.keys c.number_of_shared.new.shared.keys (λ n x is. is)
+    c.number_of_shared.ensures.kept c.self.inside.moves.entries c.self.invariant.moves
+
+moves_then : (c : After-first_harts) → AreMoves c.self.inside.program c.first_harts.new.table.keys
+    c.number_of_shared.new.shared.keys c.self.inside.moves.entries
+moves_then c =
+    moves_stay c.self.inside.program c.self.inside.hart_states.keys c.first_harts.new.table.keys
+    c.self.inside.shared_states.keys c.number_of_shared.new.shared.keys c.first_harts.ensures.kept
+    c.number_of_shared.ensures.kept c.self.inside.moves.entries c.self.invariant.moves
+
 pub invariant_of-self : goal.invariant_of-self
 invariant_of-self c = record {
   sound = c.self.invariant.sound;
   zero = c.self.invariant.zero;
   code = codes (goal.at.invariant_of-self c).After-number_of_shared;
+  moves = moves_first (goal.at.invariant_of-self c).After-number_of_shared;
 }
 
 pub invariant_of-self-in_err-numbers : goal.invariant_of-self-in_err-numbers
@@ -30,6 +46,7 @@ invariant_of-self-in_err-numbers c = record {
   sound = c.self.invariant.sound;
   zero = c.first_harts.ensures.zero c.self.invariant.zero;
   code = codes (goal.at.invariant_of-self-in_err-numbers c).After-number_of_shared;
+  moves = moves_then (goal.at.invariant_of-self-in_err-numbers c).After-first_harts;
 }
 
 pub invariant_of-self-in_err-state : goal.invariant_of-self-in_err-state
@@ -37,6 +54,7 @@ invariant_of-self-in_err-state c = record {
   sound = c.self.invariant.sound;
   zero = c.first_harts.ensures.zero c.self.invariant.zero;
   code = codes (goal.at.invariant_of-self-in_err-state c).After-number_of_shared;
+  moves = moves_then (goal.at.invariant_of-self-in_err-state c).After-first_harts;
 }
 
 pub invariant_of-self-2 : goal.invariant_of-self-2
@@ -44,6 +62,7 @@ invariant_of-self-2 c = record {
   sound = c.self.invariant.sound;
   zero = c.first_harts.ensures.zero c.self.invariant.zero;
   code = codes (goal.at.invariant_of-self-2 c).After-number_of_shared;
+  moves = moves_then (goal.at.invariant_of-self-2 c).After-first_harts;
 }
 
 pub returns-clause-begun : goal.returns-clause-begun
