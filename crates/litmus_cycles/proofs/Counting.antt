@@ -10,7 +10,7 @@ use Rattle.litmus_cycles.specs.declared.demand.Demand.{Demand}
 use Rattle.litmus_cycles.specs.Choices.{joined, all_ways, events_of}
 use Rattle.litmus_cycles.specs.Counts.{count_of, count_behind, combinations, is_ruled_out}
 use Rattle.litmus_cycles.specs.Searched.{IsComplete, Stays, Searches, HasCounted}
-use Rattle.litmus_cycles.proofs.Products.{stopped_sum, once_stopped}
+use Rattle.litmus_cycles.proofs.{Products.stopped_sum, Products.once_stopped, Learning.ruled_out_then}
 
 -- What isn't complete has counted as many as you like.
 pub never_counted : (total : ℕ) (before after : Findings) → (IsComplete after → ⊥) → HasCounted total before after
@@ -21,9 +21,6 @@ over_counted total before after over = never_counted total before after (λ c. t
 
 pub part_counted : (total : ℕ) (before after : Findings) → after.is_whole ≡ false → HasCounted total before after
 part_counted total before after part = never_counted total before after (λ c. true≢false (sym c.whole ∙ part))
-
-pub given_up_counted : (total : ℕ) (before after : Findings) → after.gives_up ≡ true → HasCounted total before after
-given_up_counted total before after up = never_counted total before after (λ c. true≢false (sym up ∙ c.kept))
 
 pub none_counted : (before after : Findings) → after.candidates ≡ before.candidates → HasCounted 0 before after
 none_counted before after same = record {
@@ -37,7 +34,6 @@ counts_on demand found first second before between after searches one other = re
   sum = λ c.
       let mid : IsComplete between = record {
         whole = searches.whole c.whole;
-        kept = sym searches.same ∙ c.kept;
         lasts = searches.over c.whole c.lasts;
       } in
       stopped_sum (2 ^ 64 - 1) before.candidates between.candidates after.candidates first second
@@ -129,3 +125,21 @@ related_counted test runs chosen start events before after none made counts =
     made ∙ ap (λ xs. xs ++ events_of runs.harts.items 0 (length xs) chosen) none in
     subst (λ es. HasCounted (if is_ruled_out test runs chosen then 0 else combinations es (length test.words.items))
     before after) e counts
+
+sum_none : {X : Type 0} (f : X → ℕ) (xs : List X) → ((x : X) → f x ≡ 0) → sum_by f xs ≡ 0
+sum_none f [] none = refl
+sum_none f (x ∷ xs) none =
+    let one = none x in
+    let others = sum_none f xs none in
+    sum_by-cons f x xs ∙ omega (arith, one, others)
+
+pub ruled_out_counted : (test : LitmusTest) (runs : AllRuns) (chosen : List ℕ) (left : List HartRuns)
+    (before after : Findings) → is_ruled_out test runs chosen ≡ true → after.candidates ≡ before.candidates
+    → HasCounted (count_behind test runs chosen left) before after
+ruled_out_counted test runs chosen left before after out same =
+    same_counted 0 (count_behind test runs chosen left) before after
+    (sym (sum_none (λ others. count_of test runs (chosen ++ others)) (all_ways left)
+    (λ others. ap (λ b. if b then 0
+    else combinations (events_of runs.harts.items 0 0 (chosen ++ others)) (length test.words.items))
+    (ruled_out_then test runs chosen others out))))
+    (none_counted before after same)

@@ -79,7 +79,6 @@ pub kept : (demand : Demand) (test : LitmusTest) (events : List MemoryEvent) (ju
     → Searches demand (events ∷ []) before after
 kept demand test events judged before after is keeps = record {
   whole = keeps.whole;
-  same = keeps.same;
   over = λ w o. (or_parts before.is_over (is_last judged) (sym (keeps.over w) ∙ o)).0;
   lasts = λ asks w o. keeps.over w ∙ ap (λ b. b || is_last judged) o ∙ last_early demand test events judged is asks;
   counted = λ c. keeps.fitting c.whole;

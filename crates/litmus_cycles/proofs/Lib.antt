@@ -1,6 +1,16 @@
+mod Beginning
+mod Coming
 mod Counting
+mod Demands
+mod Given
 mod Keeping
+mod Learning
 mod Opening
+mod Pairs
 mod Products
+mod Reading
+mod Ready
 mod Reasons
+mod Standing
+mod Staying
 mod Wholes

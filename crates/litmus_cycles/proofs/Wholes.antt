@@ -10,17 +10,19 @@ use Rattle.litmus_tests.specs.declared.test.LitmusTest.{LitmusTest}
 use Rattle.litmus_runs.specs.declared.runs.{AllRuns.AllRuns, HartRuns.HartRuns}
 use Rattle.litmus_cycles.specs.declared.{event.MemoryEvent.MemoryEvent, open.Open.Open, findings.Findings.Findings}
 use Rattle.litmus_cycles.specs.declared.demand.Demand.{Demand}
-use Rattle.litmus_cycles.specs.Choices.{joined, come_of, come, may_choose, with_choice, all_open, events_of, all_ways}
+use Rattle.litmus_cycles.specs.Choices.{joined, come_of, come, may_choose, with_choice, all_open, events_of, all_ways, candidates_of}
 use Rattle.litmus_cycles.specs.{Endings.may_end, Explained.HasCycle, Explained.shows_execution}
 use Rattle.litmus_cycles.specs.Searched.{meets_demand, is_wanted, wanted_of, wanted_behind, all_wanted}
 use Rattle.litmus_cycles.specs.Searched.{IsComplete, Stays, Searches, HasCounted, AreSearched}
-use Rattle.litmus_cycles.specs.Counts.{count_all}
+use Rattle.litmus_cycles.specs.Counts.{count_all, is_ruled_out}
+use Rattle.litmus_cycles.specs.Kept.{IsReady, IsDecided, AreUnsourced, NoneComes}
+use Rattle.litmus_cycles.proofs.Coming.{none_wanted, ready_next, decided_next}
+use Rattle.litmus_cycles.proofs.Learning.{never_ends}
 
 was_complete : (demand : Demand) (found : List (List MemoryEvent)) (before after : Findings)
     → Searches demand found before after → IsComplete after → IsComplete before
 was_complete demand found before after searches complete = record {
   whole = searches.whole complete.whole;
-  kept = sym searches.same ∙ complete.kept;
   lasts = searches.over complete.whole complete.lasts;
 }
 
@@ -30,7 +32,6 @@ pub searches_on : (demand : Demand) (first second : List (List MemoryEvent)) (be
     → Searches demand (first ++ second) before after
 searches_on demand first second before between after one other = record {
   whole = λ w. one.whole (other.whole w);
-  same = other.same ∙ one.same;
   over = λ w o. one.over (other.whole w) (other.over w o);
   lasts = λ is w o. other.lasts is w (one.lasts is (other.whole w) o);
   counted = λ c.
@@ -52,7 +53,6 @@ pub tried : (demand : Demand) (found : List (List MemoryEvent)) (before after : 
     → (IsComplete after → found ≡ []) → Searches demand found before after
 tried demand found before after stays none = record {
   whole = stays.whole;
-  same = stays.same;
   over = λ w o. sym (stays.over w) ∙ o;
   lasts = λ is w o. stays.over w ∙ o;
   counted = λ c.
@@ -69,7 +69,7 @@ stays_on demand found before between after stays searches =
     searches_on demand [] found before between after (tried demand [] before between stays (λ c. refl)) searches
 
 pub stays_same : (findings : Findings) → Stays findings findings
-stays_same findings = record { whole = λ w. w; same = refl; over = λ w. refl; fitting = refl; shown = refl }
+stays_same findings = record { whole = λ w. w; over = λ w. refl; fitting = refl; shown = refl }
 
 pub none_tried : (demand : Demand) (findings : Findings) → Searches demand [] findings findings
 none_tried demand findings = tried demand [] findings findings (stays_same findings) (λ c. refl)
@@ -79,18 +79,12 @@ pub ended : (demand : Demand) (first second : List (List MemoryEvent)) (before a
     → Searches demand first before after → after.is_over ≡ true → Searches demand second before after
 ended demand first second before after searches over = record {
   whole = searches.whole;
-  same = searches.same;
   over = λ w o. absurd (true≢false (sym over ∙ o));
   lasts = searches.lasts;
   counted = λ c. absurd (true≢false (sym over ∙ c.lasts));
   execution = searches.execution;
   cycles = λ c hidden. absurd (true≢false (sym over ∙ c.lasts));
 }
-
-pub given_up : (demand : Demand) (found : List (List MemoryEvent)) (before after : Findings) → Stays before after
-    → before.gives_up ≡ true → Searches demand found before after
-given_up demand found before after stays up =
-    tried demand found before after stays (λ c. absurd (true≢false (sym up ∙ sym stays.same ∙ c.kept)))
 
 pub left_out : (demand : Demand) (found : List (List MemoryEvent)) (before after : Findings) → Stays before after
     → after.is_whole ≡ false → Searches demand found before after
@@ -146,14 +140,43 @@ choice_made test runs chosen demand first rest events next choice before between
 
 pub choice_refused : (test : LitmusTest) (runs : AllRuns) (chosen : List ℕ) (demand : Demand) (first : Open)
     (rest : List Open) (events : List MemoryEvent) (choice : ℕ) (before after : Findings)
-    → (before.gives_up ≡ false → may_choose test first choice events ≡ false) → Stays before after
+    → filter (is_wanted test runs chosen demand) (come_of test (come test rest) first events choice) ≡ []
+    → Stays before after
     → Searches demand (filter (is_wanted test runs chosen demand) (come_of test (come test rest) first events choice))
     before after
 choice_refused test runs chosen demand first rest events choice before after refused stays =
+    tried demand (filter (is_wanted test runs chosen demand) (come_of test (come test rest) first events choice))
+    before after stays (λ c. refused)
+
+-- Nothing wanted comes of a choice that can't be made, or that leaves none.
+pub none_refused : (test : LitmusTest) (runs : AllRuns) (chosen : List ℕ) (demand : Demand) (first : Open)
+    (rest : List Open) (events : List MemoryEvent) (choice : ℕ) → may_choose test first choice events ≡ false
+    → filter (is_wanted test runs chosen demand) (come_of test (come test rest) first events choice) ≡ []
+none_refused test runs chosen demand first rest events choice refused =
+    let behind : List (List MemoryEvent) = come test rest (with_choice first choice events) in
+    ap (λ b. filter (is_wanted test runs chosen demand) (if b then behind else [])) refused
+
+pub none_vain : (test : LitmusTest) (runs : AllRuns) (chosen : List ℕ) (demand : Demand) (first : Open)
+    (rest : List Open) (events next : List MemoryEvent) (choice : ℕ) → may_choose test first choice events ≡ true
+    → next ≡ with_choice first choice events → IsReady (first ∷ rest) events
+    → (IsDecided rest first choice next → AreUnsourced rest next → NoneComes test runs chosen demand rest next)
+    → filter (is_wanted test runs chosen demand) (come_of test (come test rest) first events choice) ≡ []
+none_vain test runs chosen demand first rest events next choice may is ready none =
     let wanted : List MemoryEvent → Bool = is_wanted test runs chosen demand in
     let behind : List (List MemoryEvent) = come test rest (with_choice first choice events) in
-    tried demand (filter wanted (come_of test (come test rest) first events choice)) before after stays
-    (λ c. ap (λ b. filter wanted (if b then behind else [])) (refused (sym stays.same ∙ c.kept)))
+    ap (λ b. filter wanted (if b then behind else [])) may
+    ∙ ap (λ es. filter wanted (come test rest es)) (sym is)
+    ∙ none_wanted test runs chosen demand rest next
+    (none (subst (IsDecided rest first choice) (sym is) (decided_next test first rest choice events may ready))
+    (subst (AreUnsourced rest) (sym is) (ready_next test first rest choice events may ready).unsourced))
+
+-- What is left is ready behind a choice.
+pub ready_behind : (test : LitmusTest) (first : Open) (rest left : List Open) (events next : List MemoryEvent) (choice : ℕ)
+    → may_choose test first choice events ≡ true → next ≡ with_choice first choice events → left ≡ first ∷ rest
+    → IsReady left events → IsReady rest next
+ready_behind test first rest left events next choice may is split ready =
+    subst (IsReady rest) (sym is)
+    (ready_next test first rest choice events may (subst (λ xs. IsReady xs events) split ready))
 
 -- Of the choice of a turn, which counts from the last one down.
 pub turn_made : (test : LitmusTest) (runs : AllRuns) (chosen : List ℕ) (demand : Demand) (first : Open)
@@ -173,16 +196,18 @@ none_of None not_some = refl
 none_of (Some x) not_some = absurd (not_some x refl)
 
 pub turn_refused : {X : Type 0} (test : LitmusTest) (runs : AllRuns) (chosen : List ℕ) (demand : Demand) (first : Open)
-    (rest : List Open) (events : List MemoryEvent) (choice turn : ℕ) (before after : Findings) (given : Option X)
-    → choice ≡ length events - turn → ((x : X) → given ≡ Some x → ⊥)
-    → (given ≡ None → before.gives_up ≡ false → may_choose test first choice events ≡ false) → Stays before after
+    (rest left : List Open) (events : List MemoryEvent) (choice turn : ℕ) (before after : Findings) (given : Option X)
+    → choice ≡ length events - turn → ((x : X) → given ≡ Some x → ⊥) → left ≡ first ∷ rest → IsReady left events
+    → (given ≡ None → (others : List Open) → IsReady (first ∷ others) events
+    → filter (is_wanted test runs chosen demand) (come_of test (come test others) first events choice) ≡ [])
+    → Stays before after
     → Searches demand (filter (is_wanted test runs chosen demand)
     (come_of test (come test rest) first events (length events - turn))) before after
-turn_refused test runs chosen demand first rest events choice turn before after given e not_some refused stays =
+turn_refused test runs chosen demand first rest left events choice turn before after given e not_some split ready refused stays =
     subst (λ k. Searches demand (filter (is_wanted test runs chosen demand)
     (come_of test (come test rest) first events k)) before after) e
-    (choice_refused test runs chosen demand first rest events choice before after (refused (none_of given not_some))
-    stays)
+    (choice_refused test runs chosen demand first rest events choice before after
+    (refused (none_of given not_some) rest (subst (λ xs. IsReady xs events) split ready)) stays)
 
 -- All choices are looked at.
 pub all_turns : (test : LitmusTest) (runs : AllRuns) (chosen : List ℕ) (demand : Demand) (first : Open)
@@ -332,3 +357,32 @@ searched test runs demand new findings none uncounted begins searches counts = r
   candidates = λ c. counts.sum c ∙ ap (λ n. min (n + count_all test runs) (2 ^ 64 - 1)) uncounted
       ∙ ap (λ n. min n (2 ^ 64 - 1)) (zero-add (count_all test runs));
 }
+
+-- Nothing is wanted of ways that are ruled out, and none is counted.
+filter_none : {X : Type 0} (p : X → Bool) (xs : List X) → ((x : X) → p x ≡ false) → filter p xs ≡ []
+filter_none p [] none = refl
+filter_none p (x ∷ xs) none =
+    ap (λ b. cond b (x ∷ filter p xs) (filter p xs)) (none x) ∙ filter_none p xs none
+
+flat_none : {X Y : Type 0} (f : X → List Y) (xs : List X) → ((x : X) → f x ≡ []) → flat_map f xs ≡ []
+flat_none f [] none = refl
+flat_none f (x ∷ xs) none = ap₂ (λ a b. a ++ b) (none x) (flat_none f xs none)
+
+pub ruled_out_found : (test : LitmusTest) (runs : AllRuns) (chosen : List ℕ) (demand : Demand) (left : List HartRuns)
+    (before after : Findings) → is_ruled_out test runs chosen ≡ true → Stays before after
+    → Searches demand (wanted_behind test runs demand chosen left) before after
+ruled_out_found test runs chosen demand left before after out stays =
+    tried demand (wanted_behind test runs demand chosen left) before after stays
+    (λ c. flat_none (λ others. wanted_of test runs demand (chosen ++ others)) (all_ways left)
+    (λ others. filter_none (is_wanted test runs (chosen ++ others) demand) (candidates_of test runs.harts.items (chosen ++ others))
+    (λ events. ap (λ b. b && meets_demand demand test events) (never_ends test runs chosen others events out))))
+
+pub none_begins : (test : LitmusTest) (runs : AllRuns) (chosen : List ℕ) (demand : Demand) (events : List MemoryEvent)
+    (before after : Findings) → Stays before after
+    → ((left : List Open) → NoneComes test runs chosen demand left events)
+    → Searches demand (filter (is_wanted test runs chosen demand)
+    (come test (all_open events 0 (length test.words.items)) events)) before after
+none_begins test runs chosen demand events before after stays none =
+    let left : List Open = all_open events 0 (length test.words.items) in
+    tried demand (filter (is_wanted test runs chosen demand) (come test left events)) before after stays
+    (λ c. none_wanted test runs chosen demand left events (none left))

@@ -3,6 +3,8 @@ pub mod Counts
 pub mod Endings
 pub mod Executions
 pub mod Explained
+pub mod Kept
 pub mod Looked
 pub mod OneOrder
+pub mod Refusals
 pub mod Searched

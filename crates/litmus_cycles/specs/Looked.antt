@@ -45,10 +45,8 @@ EachHas test runs (Atomicity events broken) = Unit {0}
 EachHas test runs (Execution events order) = Unit {0}
 
 pub record AreLookedAt (test : LitmusTest) (runs : AllRuns) (explanation : Explanation) : Type 0 where
-  pub candidates : explanation.is_whole ≡ true → explanation.gives_up ≡ false
+  pub candidates : explanation.is_whole ≡ true
       → min explanation.candidates (2 ^ 64 - 1) ≡ min (count_all test runs) (2 ^ 64 - 1)
-  pub fitting : explanation.is_whole ≡ true → explanation.gives_up ≡ false
-      → explanation.fitting ≡ length (all_wanted test runs Whole)
-  pub none : explanation.is_whole ≡ true → explanation.gives_up ≡ false → explanation.fitting ≡ 0
-      → HasNone test runs explanation.shown
-  pub each : explanation.is_whole ≡ true → explanation.gives_up ≡ false → EachHas test runs explanation.shown
+  pub fitting : explanation.is_whole ≡ true → explanation.fitting ≡ length (all_wanted test runs Whole)
+  pub none : explanation.is_whole ≡ true → explanation.fitting ≡ 0 → HasNone test runs explanation.shown
+  pub each : explanation.is_whole ≡ true → EachHas test runs explanation.shown

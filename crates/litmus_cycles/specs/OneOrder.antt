@@ -25,6 +25,11 @@ keeps_order events a b =
 abbrev pub writes_behind : List MemoryEvent → MemoryEvent → Bool
 writes_behind events event = not (is_read event && is_write event) || nat_lt (source_rank events event) event.rank
 
+-- Of two writes of one hart to one location the first stands before the other.
+abbrev pub are_own_in_order : MemoryEvent → MemoryEvent → Bool
+are_own_in_order a b =
+    not (a.hart == b.hart && a.location == b.location && is_write a && is_write b) || nat_lt a.rank b.rank
+
 abbrev pub is_coherent_execution : List MemoryEvent → Bool
 is_coherent_execution events = all_pairs (keeps_order events) events && list_all (writes_behind events) events
 

@@ -1,5 +1,5 @@
--- What a search has looked at: all candidates that are wanted, unless it left something out, gave something up, or ended
--- at one that it looked for.
+-- What a search has looked at: all candidates that are wanted, unless it left something out, or ended at one that it
+-- looked for.
 use Rattle.std.specs.Prelude.{◌≡◌, ℕ, ◌+◌, ◌-◌, ◌^◌, ◌<◌, min, Bool, true, false, ◌&&◌, ◌||◌, List, [], ◌++◌, length, All, filter}
 use Rattle.std.specs.Prelude.{flat_map}
 use Rattle.litmus_tests.specs.declared.test.LitmusTest.{LitmusTest}
@@ -7,16 +7,16 @@ use Rattle.litmus_runs.specs.declared.runs.{AllRuns.AllRuns, HartRuns.HartRuns}
 use Rattle.litmus_cycles.specs.declared.{event.MemoryEvent.MemoryEvent, findings.Findings.Findings}
 use Rattle.litmus_cycles.specs.declared.demand.Demand.{Demand}
 use Rattle.litmus_cycles.specs.declared.demand.Demand.TheVariants.{Numbers, Writes, Coherent, Whole}
-use Rattle.litmus_cycles.specs.{Executions.is_candidate, OneOrder.is_coherent_execution}
+use Rattle.litmus_cycles.specs.Executions.{is_candidate, all_pairs}
+use Rattle.litmus_cycles.specs.OneOrder.{is_coherent_execution, are_own_in_order}
 use Rattle.litmus_cycles.specs.{Endings.may_end, Choices.candidates_of, Choices.all_ways, Counts.count_all}
 use Rattle.litmus_cycles.specs.declared.showing.Judged.{Judged}
 use Rattle.litmus_cycles.specs.Explained.{IsShown, shows_execution, HasCycle, fits, is_last, is_told, shown_behind}
 
--- Whether a candidate is asked for. That the writes of a hart are in program order is only asked for so that one such
--- is shown first.
+-- Whether a candidate is asked for.
 abbrev pub meets_demand : Demand → LitmusTest → List MemoryEvent → Bool
 meets_demand Numbers test events = is_candidate test events
-meets_demand Writes test events = is_candidate test events
+meets_demand Writes test events = is_candidate test events && all_pairs are_own_in_order events
 meets_demand Coherent test events = is_candidate test events && is_coherent_execution events
 meets_demand Whole test events = fits test events
 
@@ -38,10 +38,9 @@ wanted_behind test runs demand chosen left =
 abbrev pub all_wanted : LitmusTest → AllRuns → Demand → List (List MemoryEvent)
 all_wanted test runs demand = wanted_behind test runs demand [] runs.harts.items
 
--- Nothing was left out or given up, and the search didn't end early.
+-- Nothing was left out, and the search didn't end early.
 pub record IsComplete (findings : Findings) : Type 0 where
   pub whole : findings.is_whole ≡ true
-  pub kept : findings.gives_up ≡ false
   pub lasts : findings.is_over ≡ false
 
 pub record IsFound (test : LitmusTest) (findings : Findings) : Type 0 where
@@ -51,7 +50,6 @@ pub record IsFound (test : LitmusTest) (findings : Findings) : Type 0 where
 -- No candidate was taken.
 pub record Stays (before after : Findings) : Type 0 where
   pub whole : after.is_whole ≡ true → before.is_whole ≡ true
-  pub same : after.gives_up ≡ before.gives_up
   pub over : after.is_whole ≡ true → after.is_over ≡ before.is_over
   pub fitting : after.fitting ≡ before.fitting
   pub shown : after.shown ≡ before.shown
@@ -60,7 +58,6 @@ pub record Stays (before after : Findings) : Type 0 where
 pub record Keeps (judged : Judged) (before after : Findings) : Type 0 where
   pub whole : after.is_whole ≡ true → before.is_whole ≡ true
   pub told : after.is_whole ≡ true → is_told judged ≡ true
-  pub same : after.gives_up ≡ before.gives_up
   pub over : after.is_whole ≡ true → after.is_over ≡ (before.is_over || is_last judged)
   pub some : 0 < after.fitting
   pub fitting : after.is_whole ≡ true → after.fitting ≡ before.fitting + 1
@@ -69,7 +66,6 @@ pub record Keeps (judged : Judged) (before after : Findings) : Type 0 where
 -- These are the candidates that were wanted of those that were looked at.
 pub record Searches (demand : Demand) (found : List (List MemoryEvent)) (before after : Findings) : Type 0 where
   pub whole : after.is_whole ≡ true → before.is_whole ≡ true
-  pub same : after.gives_up ≡ before.gives_up
   pub over : after.is_whole ≡ true → after.is_over ≡ false → before.is_over ≡ false
   pub lasts : demand ≡ Whole → after.is_whole ≡ true → before.is_over ≡ false → after.is_over ≡ false
   pub counted : IsComplete after → after.fitting ≡ before.fitting + length found

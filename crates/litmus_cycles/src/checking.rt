@@ -207,7 +207,7 @@ fn are_made(test: &LitmusTest, events: &[MemoryEvent]) -> bool
 }
 
 /// Whether another hart's write, behind what its load-reserved has read, broke a store-conditional that fails.
-fn is_failing(events: &[MemoryEvent], event: &MemoryEvent) -> bool
+pub(crate) fn is_failing(events: &[MemoryEvent], event: &MemoryEvent) -> bool
     ensures { result ≡ is_failing events.now event.now }
 {
     let is_older = reads_older(events, event, source_rank(events, event));

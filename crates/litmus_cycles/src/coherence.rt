@@ -4,7 +4,7 @@ ghost use Rattle.std.specs.Prelude.{◌≡◌, ◌&&◌, not, nat_lt};
 ghost use Rattle.std.specs.List.{list_all};
 ghost use Rattle.litmus_cycles.specs.Executions.{all_pairs};
 ghost use Rattle.litmus_cycles.specs.OneOrder.{rank_behind, goes_on, keeps_order, writes_behind, is_coherent_execution};
-ghost use Rattle.litmus_cycles.specs.OneOrder.{parts, is_whole_execution};
+ghost use Rattle.litmus_cycles.specs.OneOrder.{parts, is_whole_execution, are_own_in_order};
 ghost use Rattle.litmus_cycles.specs.Executions.{load_of, reads_older, is_others_write, is_broken_by_other};
 
 use crate::event::MemoryEvent;
@@ -46,6 +46,30 @@ pub(crate) fn writes_behind(events: &[MemoryEvent], event: &MemoryEvent) -> bool
 {
     let source = source_rank(events, event);
     !(event.reads.is_some() && event.writes.is_some()) || source < event.rank
+}
+
+/// Whether of two writes of one hart to one location the first one stands before the other.
+pub(crate) fn are_own_in_order(a: &MemoryEvent, b: &MemoryEvent) -> bool
+    ensures { result ≡ are_own_in_order a.now b.now }
+{
+    !(a.hart == b.hart && a.location == b.location && a.writes.is_some() && b.writes.is_some())
+        || a.rank < b.rank
+}
+
+fn is_own_in_order(event: &MemoryEvent, later: &[MemoryEvent]) -> bool
+    ensures { result ≡ list_all (are_own_in_order event.now) later.now }
+{
+    later.iter().all(|other| are_own_in_order(event, other))
+}
+
+/// Whether the writes of each hart to each location are in program order.
+pub(crate) fn are_writes_in_order(events: &[MemoryEvent]) -> bool
+    ensures { result ≡ all_pairs are_own_in_order events.now }
+{
+    match events {
+        [] => true,
+        [event, later @ ..] => is_own_in_order(event, later) && are_writes_in_order(later),
+    }
 }
 
 fn all_write_behind(events: &[MemoryEvent]) -> bool
@@ -125,7 +149,7 @@ pub(crate) fn parts(events: &[MemoryEvent], write: &MemoryEvent, store: &MemoryE
     store.writes.is_some() && is_others_write(store, write) && write.rank < store.rank && is_older
 }
 
-fn is_whole_access(events: &[MemoryEvent], store: &MemoryEvent) -> bool
+pub(crate) fn is_whole_access(events: &[MemoryEvent], store: &MemoryEvent) -> bool
     ensures { result ≡ list_all (λ write. not (parts events.now write store.now)) events.now }
 {
     events.iter().all(|write| !parts(events, write, store))

@@ -1,6 +1,6 @@
 //! Why no execution of a test ends as its condition says.
 
-ghost use Rattle.std.specs.Prelude.{◌≡◌, ◌==◌, ◌<◌, ◌&&◌, ◌||◌, true, false, IfOk};
+ghost use Rattle.std.specs.Prelude.{◌≡◌, ◌==◌, ◌<◌, ◌&&◌, true, false, IfOk};
 ghost use Rattle.litmus_cycles.specs.Explained.{IsShown};
 ghost use Rattle.litmus_cycles.specs.Searched.{AreSearched, IsFound};
 ghost use Rattle.litmus_cycles.specs.Looked.{AreLookedAt, is_incoherent, is_atomicity};
@@ -9,7 +9,8 @@ ghost use Rattle.litmus_cycles.specs.declared.demand.Demand.TheVariants.{Whole};
 use crate::demand::Demand;
 use crate::explanation::{Explanation, Shown};
 use crate::findings::Findings;
-use crate::searching::{search, search_by};
+use crate::onlooker::ChoiceOnlooker;
+use crate::searching::search;
 use litmus_runs::{AllRuns, all_runs};
 use litmus_tests::LitmusTest;
 use std::alloc::{AllocError, Global};
@@ -22,26 +23,31 @@ use std::alloc::{AllocError, Global};
 /// a write of its number, and the writes of each location an order. What doesn't fit, what accesses anything else
 /// than the word of a location, and what comes behind a million choices that something may come of, or behind 10,000
 /// candidates that fit, isn't looked at, which `is_whole` tells. Errors: want of memory.
-pub fn explain_forbidden(test: &LitmusTest, alloc: Global) -> Result<Explanation, AllocError>
+pub fn explain_forbidden<O: ChoiceOnlooker>(
+    test: &LitmusTest,
+    onlooker: &O,
+    alloc: Global,
+) -> Result<Explanation, AllocError>
     ensures { IfOk result (λ explanation. IsShown test.now explanation.shown) }
 {
     let runs = all_runs(test, alloc)?;
-    explain_ways(test, &runs, alloc)
+    explain_ways(test, &runs, onlooker, alloc)
 }
 
-/// So it does with these ways of its harts. Where it is whole and gave up nothing, none of their candidates is of a
-/// kind that is said not to be there.
-pub fn explain_ways(
+/// So it does with these ways of its harts. Where it is whole, none of their candidates is of a kind that is said not to
+/// be there.
+pub fn explain_ways<O: ChoiceOnlooker>(
     test: &LitmusTest,
     runs: &AllRuns,
+    onlooker: &O,
     alloc: Global,
 ) -> Result<Explanation, AllocError>
     ensures shown { IfOk result (λ explanation. IsShown test.now explanation.shown) }
     ensures all { IfOk result (AreLookedAt test.now runs.now) }
 {
-    let findings = search(test, runs, Demand::Whole, alloc)?;
+    let findings = search(test, runs, Demand::Whole, onlooker, alloc)?;
     if has_none(&findings) {
-        return excluded(test, runs, findings, alloc);
+        return excluded(test, runs, findings, onlooker, alloc);
     }
     Ok(told(findings))
 }
@@ -55,10 +61,11 @@ fn has_none(findings: &Findings) -> bool
 }
 
 /// Why none fits: atomicity where there is a coherent one, coherence where there is one with the numbers.
-fn excluded(
+fn excluded<O: ChoiceOnlooker>(
     test: &LitmusTest,
     runs: &AllRuns,
     none: Findings,
+    onlooker: &O,
     alloc: Global,
 ) -> Result<Explanation, AllocError>
     requires searched { AreSearched test.now runs.now Whole none }
@@ -67,15 +74,15 @@ fn excluded(
     ensures shown { IfOk result (λ explanation. IsShown test.now explanation.shown) }
     ensures all { IfOk result (AreLookedAt test.now runs.now) }
 {
-    let coherent = search(test, runs, Demand::Coherent, alloc)?;
+    let coherent = search(test, runs, Demand::Coherent, onlooker, alloc)?;
     if is_atomicity(&coherent.shown) {
         return Ok(because(&none, &none, coherent.shown));
     }
-    let writes = search_by(test, runs, Demand::Writes, true, alloc)?;
+    let writes = search(test, runs, Demand::Writes, onlooker, alloc)?;
     if is_incoherent(&writes.shown) {
         return Ok(because(&none, &coherent, writes.shown));
     }
-    let numbers = search(test, runs, Demand::Numbers, alloc)?;
+    let numbers = search(test, runs, Demand::Numbers, onlooker, alloc)?;
     if is_incoherent(&numbers.shown) {
         return Ok(because(&none, &coherent, numbers.shown));
     }
@@ -87,14 +94,12 @@ fn because(none: &Findings, others: &Findings, shown: Shown) -> Explanation
     ensures shown { result.shown ≡ shown }
     ensures candidates { result.candidates ≡ none.now.candidates }
     ensures fitting { result.fitting ≡ 0 }
-    ensures gives_up { result.gives_up ≡ (none.now.gives_up || others.now.gives_up) }
     ensures whole { result.is_whole ≡ (none.now.is_whole && (others.now.is_whole && others.now.fitting == 0)) }
 {
     Explanation {
         candidates: none.candidates,
         fitting: 0,
         is_whole: none.is_whole && (others.is_whole && others.fitting == 0),
-        gives_up: none.gives_up || others.gives_up,
         shown,
     }
 }
@@ -116,13 +121,11 @@ fn told(findings: Findings) -> Explanation
     ensures candidates { result.candidates ≡ findings.candidates }
     ensures fitting { result.fitting ≡ findings.fitting }
     ensures whole { result.is_whole ≡ findings.is_whole }
-    ensures gives_up { result.gives_up ≡ findings.gives_up }
 {
     Explanation {
         candidates: findings.candidates,
         fitting: findings.fitting,
         is_whole: findings.is_whole,
-        gives_up: findings.gives_up,
         shown: findings.shown,
     }
 }

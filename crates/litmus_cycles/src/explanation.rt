@@ -52,7 +52,5 @@ pub struct Explanation {
     pub fitting: u64,
     /// Whether all were looked at.
     pub is_whole: bool,
-    /// Whether a choice was given up where nothing that fits could come of it, and what comes of it not gone through.
-    pub gives_up: bool,
     pub shown: Shown,
 }

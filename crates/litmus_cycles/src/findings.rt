@@ -13,11 +13,11 @@ use crate::showing::{Judged, judge};
 use litmus_tests::LitmusTest;
 use std::alloc::{AllocError, Global};
 
-/// How many choices are tried where each is gone through to its end.
-const MOST_TRIED_OF_ALL: u32 = 100_000;
-
-/// How many choices are tried where those are given up of which nothing can come.
+/// How many choices are tried of which something may come.
 const MOST_TRIED: u32 = 1_000_000;
+
+/// How many choices of ways are looked at, of some harts or of all.
+const MOST_WAYS: u32 = 2_000_000;
 
 /// How many candidates that fit are explained.
 const MOST_FITTING: u64 = 10_000;
@@ -25,8 +25,6 @@ const MOST_FITTING: u64 = 10_000;
 /// What a search for candidates that meet a demand has found so far.
 #[derive(Drop)]
 pub(crate) struct Findings {
-    /// Whether choices are given up of which nothing can come.
-    pub gives_up: bool,
     /// How many candidates the ways have that were chosen.
     pub candidates: u64,
     /// How many of them meet the demand.
@@ -40,35 +38,51 @@ pub(crate) struct Findings {
     cost: Option<Cost>,
     /// How many more choices are tried.
     left: u32,
+    /// How many more choices of ways are looked at.
+    ways_left: u32,
 }
 
 impl Findings {
-    pub fn new(gives_up: bool, is_whole: bool) -> Findings
+    pub fn new(is_whole: bool) -> Findings
         ensures shown { result.shown ≡ Nothing }
         ensures over { result.is_over ≡ false }
-        ensures gives_up { result.gives_up ≡ gives_up }
         ensures whole { result.is_whole ≡ is_whole }
         ensures fitting { result.fitting ≡ 0 }
         ensures counts { result.candidates ≡ 0 }
     {
-        let left = if gives_up {
-            MOST_TRIED
-        } else {
-            MOST_TRIED_OF_ALL
-        };
         Findings {
-            gives_up,
             candidates: 0,
             fitting: 0,
             is_whole,
             is_over: false,
             shown: Shown::Nothing,
             cost: None,
-            left,
+            left: MOST_TRIED,
+            ways_left: MOST_WAYS,
         }
     }
 
-    /// Counts candidates of ways that are chosen.
+    /// How many choices were tried.
+    pub fn tried(&self) -> u32 {
+        let ways = MOST_WAYS.saturating_sub(self.ways_left);
+        ways.saturating_add(MOST_TRIED.saturating_sub(self.left))
+    }
+
+    /// Counts ways that the registers rule out; where there are too many, the search is over, and not whole.
+    pub fn rule_out(&mut self, test: &LitmusTest)
+        requires { IsFound test.now self.old }
+        ensures found { IsFound test.now self.new }
+        ensures stays { Stays self.old self.new }
+        ensures counts { self.new.candidates ≡ self.old.candidates }
+    {
+        self.ways_left = self.ways_left.saturating_sub(1);
+        if self.ways_left == 0 {
+            self.is_whole = false;
+            self.is_over = true;
+        }
+    }
+
+    /// Counts candidates of ways that are chosen, and these; where there are too many, the search is over, and not whole.
     pub fn count(&mut self, test: &LitmusTest, candidates: u64)
         requires { IsFound test.now self.old }
         ensures found { IsFound test.now self.new }
@@ -76,6 +90,7 @@ impl Findings {
         ensures counts { self.new.candidates ≡ min (self.old.candidates + candidates) (2 ^ 64 - 1) }
     {
         self.candidates = self.candidates.saturating_add(candidates);
+        self.rule_out(test);
     }
 
     /// Counts a choice; where there are too many, the search is over, and not whole.
@@ -149,7 +164,6 @@ impl Findings {
     fn show(&mut self, shown: Shown)
         ensures shown { self.new.shown ≡ unless_execution self.old.shown shown }
         ensures whole { self.new.is_whole ≡ self.old.is_whole }
-        ensures same { self.new.gives_up ≡ self.old.gives_up }
         ensures over { self.new.is_over ≡ self.old.is_over }
         ensures fitting { self.new.fitting ≡ self.old.fitting }
         ensures counts { self.new.candidates ≡ self.old.candidates }
@@ -161,7 +175,6 @@ impl Findings {
 
     fn count_one(&mut self)
         ensures shown { self.new.shown ≡ self.old.shown }
-        ensures same { self.new.gives_up ≡ self.old.gives_up }
         ensures whole { self.new.is_whole ≡ true → self.old.is_whole ≡ true }
         ensures over { self.new.is_whole ≡ true → self.new.is_over ≡ self.old.is_over }
         ensures fitting { self.new.is_whole ≡ true → self.new.fitting ≡ self.old.fitting + 1 }

@@ -5,10 +5,10 @@
 //!
 //! Read in this order: `event` (accesses to memory and how they are related), `relating`, `coherence`, `checking` (what
 //! a cycle and a candidate is, as tests), `explanation` (what is told); `demand`, `open` (what is to be decided of a
-//! candidate), `choosing`, `ending`, `deciding`, `related`, `cycles`, `showing`, `findings`, `possible`, `searching`,
+//! candidate), `choosing`, `ending`, `deciding`, `related`, `cycles`, `showing`, `findings`, `onlooker`, `searching`,
 //! `explaining` (the search).
-//! The definitions are `specs/Executions`, `specs/OneOrder`, `specs/Choices`, `specs/Endings` and `specs/Explained`; how it is told and drawn is
-//! `explained_cycles`.
+//! The definitions are `specs/Executions`, `specs/OneOrder`, `specs/Choices`, `specs/Endings`, `specs/Kept`,
+//! `specs/Refusals` and `specs/Explained`; how it is told and drawn is `explained_cycles`.
 #![tactic(auto)]
 
 mod checking;
@@ -22,8 +22,8 @@ pub mod event;
 pub mod explaining;
 pub mod explanation;
 mod findings;
+mod onlooker;
 mod open;
-mod possible;
 mod related;
 mod relating;
 mod searching;
@@ -32,4 +32,5 @@ mod showing;
 pub use event::{Edge, MemoryEvent, Relation};
 pub use explaining::explain_forbidden;
 pub use explanation::{Broken, Explanation, Shown};
+pub use onlooker::ChoiceOnlooker;
 pub use relating::is_edge;

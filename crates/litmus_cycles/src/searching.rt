@@ -1,8 +1,10 @@
 //! The search through all candidates of a demand: each hart's way, then one open choice after the other.
 
-ghost use Rattle.std.specs.Prelude.{◌≡◌, ◌≤◌, ◌++◌, [], ◌∷◌, IfOk, IfSome, OnOk, None, true, false, length, filter, min, ◌^◌, ◌-◌, if◌then◌else◌};
+ghost use Rattle.std.specs.Prelude.{◌≡◌, ◌≤◌, ◌++◌, [], ◌∷◌, IfOk, IfSome, OnOk, None, true, false, length, filter, min, ◌^◌, ◌-◌, if◌then◌else◌, List};
 ghost use Rattle.litmus_cycles.specs.Choices.{accesses_of, may_choose, with_choice, all_open, events_of, undecided, undecided_all};
-ghost use Rattle.litmus_cycles.specs.Choices.{come};
+ghost use Rattle.litmus_cycles.specs.declared.open.Open.{Open};
+ghost use Rattle.litmus_cycles.specs.Choices.{come, come_of};
+ghost use Rattle.litmus_cycles.specs.Kept.{IsReady, AreAllUnsourced};
 ghost use Rattle.litmus_cycles.specs.Counts.{count_of, count_behind, combinations, is_ruled_out};
 ghost use Rattle.litmus_cycles.specs.Searched.{IsFound, Stays, Searches, HasCounted, AreSearched, is_wanted, wanted_of, wanted_behind};
 
@@ -11,48 +13,31 @@ use crate::deciding::Asked;
 use crate::demand::Demand;
 use crate::event::MemoryEvent;
 use crate::findings::Findings;
+use crate::onlooker::ChoiceOnlooker;
 use crate::open::{Open, count_candidates, open_choices};
-use crate::possible::is_given_up;
 use litmus_runs::{Access, AllRuns, HartRuns, MOST_ACCESSES};
 use litmus_tests::LitmusTest;
 use std::alloc::{AllocError, Global};
 
-/// Looks for the candidates of a test that meet the demand: each where there are few choices, else with those given up
-/// of which nothing can come.
-pub(crate) fn search(
+/// Looks for the candidates of a test that meet the demand. The onlooker is told now and then how far the search is.
+pub(crate) fn search<O: ChoiceOnlooker>(
     test: &LitmusTest,
     runs: &AllRuns,
     demand: Demand,
+    onlooker: &O,
     alloc: Global,
 ) -> Result<Findings, AllocError>
     ensures found { IfOk result (IsFound test.now) }
     ensures all { IfOk result (AreSearched test.now runs.now demand) }
 {
-    let all = search_by(test, runs, demand, false, alloc)?;
-    if all.is_whole {
-        return Ok(all);
-    }
-    search_by(test, runs, demand, true, alloc)
-}
-
-/// So it does where choices are given up, or none is.
-pub(crate) fn search_by(
-    test: &LitmusTest,
-    runs: &AllRuns,
-    demand: Demand,
-    gives_up: bool,
-    alloc: Global,
-) -> Result<Findings, AllocError>
-    ensures found { IfOk result (IsFound test.now) }
-    ensures all { IfOk result (AreSearched test.now runs.now demand) }
-{
-    let mut findings = Findings::new(gives_up, runs.is_whole);
+    let mut findings = Findings::new(runs.is_whole);
     choose_ways(
         test,
         runs,
         demand,
         runs.harts.as_slice(),
         &[],
+        onlooker,
         &mut findings,
         alloc,
     )?;
@@ -60,12 +45,13 @@ pub(crate) fn search_by(
 }
 
 /// Chooses the ways of the harts that are left, each in turn.
-fn choose_ways(
+fn choose_ways<O: ChoiceOnlooker>(
     test: &LitmusTest,
     runs: &AllRuns,
     demand: Demand,
     left: &[HartRuns],
     chosen: &[usize],
+    onlooker: &O,
     findings: &mut Findings,
     alloc: Global,
 ) -> Result<(), AllocError>
@@ -76,7 +62,9 @@ fn choose_ways(
     ensures counts { OnOk result (HasCounted (count_behind test.now runs.now chosen.now left.now) findings.old
         findings.new) }
 {
-    if is_passed_over(test, runs, demand, chosen, findings) {
+    onlooker.see(findings.tried());
+    if is_ruled_out(test, runs, demand, chosen) {
+        findings.rule_out(test);
         return Ok(());
     }
     let [hart, rest @ ..] = left else {
@@ -87,7 +75,16 @@ fn choose_ways(
             return Ok(());
         }
         let next = with_way(chosen, index, alloc)?;
-        choose_ways(test, runs, demand, rest, next.as_slice(), findings, alloc)?;
+        choose_ways(
+            test,
+            runs,
+            demand,
+            rest,
+            next.as_slice(),
+            onlooker,
+            findings,
+            alloc,
+        )?;
     }
     Ok(())
 }
@@ -100,15 +97,9 @@ fn with_way(chosen: &[usize], index: usize, alloc: Global) -> Result<Vec<usize>,
     Ok(next)
 }
 
-/// Whether these ways are given up, since the registers rule the condition out.
-fn is_passed_over(
-    test: &LitmusTest,
-    runs: &AllRuns,
-    demand: Demand,
-    chosen: &[usize],
-    findings: &Findings,
-) -> bool
-    ensures { result ≡ true → findings.now.gives_up ≡ true }
+/// Whether the registers rule the condition out, whichever ways the harts choose that are left.
+fn is_ruled_out(test: &LitmusTest, runs: &AllRuns, demand: Demand, chosen: &[usize]) -> bool
+    ensures { result ≡ is_ruled_out test.now runs.now chosen.now }
 {
     let asked = Asked {
         test,
@@ -116,7 +107,7 @@ fn is_passed_over(
         chosen,
         demand,
     };
-    findings.gives_up && asked.is_ruled_out()
+    asked.is_ruled_out()
 }
 
 /// Goes through all candidates of the ways that are chosen.
@@ -154,7 +145,8 @@ fn relate_events(
     findings: &mut Findings,
     alloc: Global,
 ) -> Result<(), AllocError>
-    requires { IsFound asked.now.test.now findings.old }
+    requires found { IsFound asked.now.test.now findings.old }
+    requires unsourced { AreAllUnsourced events.now }
     ensures found { IsFound asked.now.test.now findings.new }
     ensures all { OnOk result (Searches asked.now.demand
         (filter (is_wanted asked.now.test.now asked.now.runs.now asked.now.chosen.now asked.now.demand)
@@ -170,7 +162,7 @@ fn relate_events(
         return Ok(());
     }
     findings.count(asked.test, count_asked(asked, events, locations));
-    if is_given_up(asked, events, findings, alloc)? {
+    if !asked.may_begin(events) {
         return Ok(());
     }
     let left = open_choices(events, locations, alloc)?;
@@ -272,7 +264,8 @@ fn decide(
     findings: &mut Findings,
     alloc: Global,
 ) -> Result<(), AllocError>
-    requires { IsFound asked.now.test.now findings.old }
+    requires found { IsFound asked.now.test.now findings.old }
+    requires ready { IsReady left.now events.now }
     ensures found { IsFound asked.now.test.now findings.new }
     ensures all { OnOk result (Searches asked.now.demand
         (filter (is_wanted asked.now.test.now asked.now.runs.now asked.now.chosen.now asked.now.demand)
@@ -317,14 +310,15 @@ pub(crate) fn choose(
     ensures counts { findings.new.candidates ≡ findings.old.candidates }
     ensures some { IfOk result (λ made. IfSome made (λ next. next.items ≡ with_choice what choice events.now)) }
     ensures chosen { IfOk result (λ made. IfSome made (λ next. may_choose asked.now.test.now what choice events.now ≡ true)) }
-    ensures none { IfOk result (λ made. made ≡ None → findings.old.gives_up ≡ false
-        → may_choose asked.now.test.now what choice events.now ≡ false) }
+    ensures none { IfOk result (λ made. made ≡ None → (rest : List Open) → IsReady (what ∷ rest) events.now
+        → filter (is_wanted asked.now.test.now asked.now.runs.now asked.now.chosen.now asked.now.demand)
+        (come_of asked.now.test.now (come asked.now.test.now rest) what events.now choice) ≡ []) }
 {
     if !may_choose(asked.test, what, choice, events) {
         return Ok(None);
     }
     let next = with_choice(what, choice, events, alloc)?;
-    if findings.gives_up && !asked.may_come(what, choice, next.as_slice()) {
+    if !asked.may_come(what, choice, next.as_slice()) {
         return Ok(None);
     }
     findings.try_one(asked.test);

@@ -2,13 +2,13 @@
 
 ghost use Rattle.std.specs.Prelude.{◌≡◌, IsTrue, IfOk, IfSome, None, true, false, ◌&&◌};
 ghost use Rattle.litmus_cycles.specs.Explained.{fits, IsJudged};
-ghost use Rattle.litmus_cycles.specs.Executions.{is_candidate};
-ghost use Rattle.litmus_cycles.specs.OneOrder.{is_coherent_execution};
+ghost use Rattle.litmus_cycles.specs.Executions.{is_candidate, all_pairs};
+ghost use Rattle.litmus_cycles.specs.OneOrder.{is_coherent_execution, are_own_in_order};
 ghost use Rattle.litmus_cycles.specs.Searched.{meets_demand};
-ghost use Rattle.litmus_cycles.specs.declared.demand.Demand.TheVariants.{Numbers, Coherent, Whole};
+ghost use Rattle.litmus_cycles.specs.declared.demand.Demand.TheVariants.{Numbers, Writes, Coherent, Whole};
 
 use crate::checking::{is_broken, is_candidate, is_cycle, is_order, stays_at_one_location};
-use crate::coherence::{is_coherent, is_whole};
+use crate::coherence::{are_writes_in_order, is_coherent, is_whole};
 use crate::cycles::{broken, least_cycle, order_of};
 use crate::demand::Demand;
 use crate::event::MemoryEvent;
@@ -45,7 +45,8 @@ pub(crate) fn judge(
     ensures none { IfOk result (λ judged. judged ≡ None → meets_demand demand test.now events.now ≡ false) }
 {
     match demand {
-        Demand::Numbers | Demand::Writes => incoherent(test, events, alloc),
+        Demand::Numbers => incoherent(test, events, alloc),
+        Demand::Writes => ordered(test, events, alloc),
         Demand::Coherent => atomicity(test, events, alloc),
         Demand::Whole => fitting(test, events, least, alloc),
     }
@@ -130,6 +131,24 @@ fn incoherent(
         return Ok(Some(Judged::Last(Shown::Incoherent { events, edges })));
     }
     Ok(Some(Judged::Untold))
+}
+
+/// So it is of a candidate whose harts' writes are in program order.
+fn ordered(
+    test: &LitmusTest,
+    events: &[MemoryEvent],
+    alloc: Global,
+) -> Result<Option<Judged>, AllocError>
+    ensures judged { IfOk result (λ judged. IfSome judged (IsJudged Writes test.now events.now)) }
+    ensures some { IfOk result (λ judged. IfSome judged (λ it.
+        (is_candidate test.now events.now && all_pairs are_own_in_order events.now) ≡ true)) }
+    ensures none { IfOk result (λ judged. judged ≡ None
+        → (is_candidate test.now events.now && all_pairs are_own_in_order events.now) ≡ false) }
+{
+    if !are_writes_in_order(events) {
+        return Ok(None);
+    }
+    incoherent(test, events, alloc)
 }
 
 /// Of a coherent candidate what breaks an AMO or a store-conditional.

@@ -17,12 +17,13 @@ abbrev pub started : List RegisterStart → ℕ → ℕ → ℕ
 started [] r before = before
 started (start ∷ starts) r before = started starts r (register_written start.register (Some (word_of start.value)) r before)
 
--- A hart at its first step: its registers are those of its starts, the others hold 0.
+-- A hart at its first step: its registers are those of its starts, the others hold 0. No access has reserved a word.
 pub record IsAtStart (thread : Thread) (hart : Hart) : Type 0 where
   pub registers : (r : ℕ) → r < 32 → slice_index hart.registers r ≡ started thread.starts.items r 0
   pub accesses : hart.accesses.items ≡ []
   pub next : hart.next ≡ 0
   pub reserved : hart.reserved ≡ None
+  pub reserving : hart.reserving ≡ 0
 
 mutual
   -- A hart is on a way of its thread: it is at its start, or has made a step of its thread with what it may find, where

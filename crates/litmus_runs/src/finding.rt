@@ -1,8 +1,10 @@
 //! What an instruction finds as its access reaches memory: a number that is there, and whether its reservation holds.
 
-ghost use Rattle.std.specs.Prelude.{◌≡◌, [], ◌∷◌, true, false, Some, None, All, IfOk, IfSome};
+ghost use Rattle.std.specs.Prelude.{◌≡◌, ℕ, [], ◌∷◌, true, false, Some, None, All, Contains, IfOk, IfSome, is_some};
+ghost use Rattle.smt_model.specs.Reservations.{holds_word};
 ghost use Rattle.litmus_runs.specs.Steps.{IsFoundConditional, IsWordAt};
 ghost use Rattle.litmus_runs.specs.Ways.{MayBeFound, IsOneOf};
+ghost use Rattle.litmus_runs.specs.AllWays.{IsPlain};
 
 use crate::known::Known;
 use crate::reservation::holds_word;
@@ -14,7 +16,7 @@ use std::alloc::{AllocError, Global};
 /// What an instruction finds: the number that its access reads, whether the hart's reservation holds on its word, and
 /// the location of the access that it makes.
 #[derive(Clone, Copy, Drop)]
-pub(crate) struct Found {
+pub struct Found {
     pub number: u32,
     pub held: bool,
     pub location: Option<usize>,
@@ -29,8 +31,11 @@ pub(crate) fn all_found(
     known: &Known,
     alloc: Global,
 ) -> Result<Option<Vec<Found>>, AllocError>
-    ensures { IfOk result (λ found. IfSome found (λ all.
+    ensures each { IfOk result (λ found. IfSome found (λ all.
         All (MayBeFound known.now.held.items op address reserved) all.items)) }
+    ensures all { IfOk result (λ found. IfSome found (λ all. (one : Found)
+        → MayBeFound known.now.held.items op address reserved one → IsPlain op address reserved one
+        → Contains all.items one)) }
 {
     if !op.kind().touches_memory() {
         return only(nothing_found(), alloc);
@@ -57,6 +62,7 @@ fn only(found: Found, alloc: Global) -> Result<Option<Vec<Found>>, AllocError>
 /// What an instruction finds that accesses no memory, or a store-conditional whose word isn't reserved: it makes no
 /// access.
 fn nothing_found() -> Found
+    ensures number { result.number ≡ 0 }
     ensures held { result.held ≡ false }
     ensures location { result.location ≡ None }
 {
@@ -86,8 +92,12 @@ fn conditional(
     reserved: Option<u32>,
     alloc: Global,
 ) -> Result<Option<Vec<Found>>, AllocError>
-    ensures { IfOk result (λ found. IfSome found (λ all.
+    ensures each { IfOk result (λ found. IfSome found (λ all.
         All (IsFoundConditional address location reserved) all.items)) }
+    ensures all { IfOk result (λ found. IfSome found (λ all. (one : Found) → one.number ≡ 0
+        → is_some one.location ≡ holds_word reserved address
+        → (one.held ≡ true → holds_word reserved address ≡ true)
+        → ((other : ℕ) → one.location ≡ Some other → other ≡ location) → Contains all.items one)) }
 {
     if !holds_word(reserved, address) {
         return only(nothing_found(), alloc);
@@ -100,6 +110,7 @@ fn conditional(
 
 /// What a store-conditional finds that writes.
 fn held_at(location: usize) -> Found
+    ensures number { result.number ≡ 0 }
     ensures held { result.held ≡ true }
     ensures location { result.location ≡ Some location }
 {
@@ -124,15 +135,20 @@ fn word_at(op: Op, address: u32) -> Option<usize>
     Some((offset / 4) as usize)
 }
 
-/// Each of the numbers that a location may have.
+/// Each of the numbers that a location may have; none where none is known, as of a word behind the locations.
 fn numbers(location: usize, known: &Known, alloc: Global) -> Result<Option<Vec<Found>>, AllocError>
-    ensures { IfOk result (λ found. IfSome found (λ all. All (IsOneOf known.now.held.items location) all.items)) }
+    ensures each { IfOk result (λ found. IfSome found (λ all. All (IsOneOf known.now.held.items location) all.items)) }
+    ensures all { IfOk result (λ found. IfSome found (λ all. (one : Found)
+        → IsOneOf known.now.held.items location one → Contains all.items one)) }
 {
     let mut all = Vec::new(alloc);
     for held in known.held.iter() {
         if held.location == location {
             all.push(found_at(location, held.number))?;
         }
+    }
+    if all.is_empty() {
+        return Ok(None);
     }
     Ok(Some(all))
 }

@@ -1,7 +1,10 @@
 //! All ways of one hart, by the numbers that are known.
 
-ghost use Rattle.std.specs.Prelude.{◌≡◌, [], All, IfOk, None, OnOk, Some, slice_get};
-ghost use Rattle.litmus_runs.specs.Ways.{AreGoing, AreKnown, IsOnWay, IsRun, MayFind};
+ghost use Rattle.std.specs.Prelude.{◌≡◌, [], true, false, All, Contains, length, IfOk, None, OnOk, Some, slice_get};
+ghost use Rattle.litmus_runs.specs.Ways.{AreGoing, AreKnown, IsAtStart, IsOnWay, IsRun, MayFind};
+ghost use Rattle.litmus_runs.specs.Turns.{IsStandingOf};
+ghost use Rattle.litmus_runs.specs.AllWays.{AreAllLearnt, AreAllListed, Grows, IsLastLearnt, IsListed};
+ghost use Rattle.litmus_runs.specs.Work.{HasGoneBeyond, HasLeft, IsGoneBy, KeepsWays};
 
 use crate::access::Access;
 use crate::finding::Found;
@@ -55,7 +58,8 @@ impl Ways {
     }
 
     pub fn into_runs(self) -> HartRuns
-        ensures { result.runs ≡ self.runs }
+        ensures runs { result.runs ≡ self.runs }
+        ensures whole { result.is_whole ≡ self.is_whole }
     {
         HartRuns {
             runs: self.runs,
@@ -65,7 +69,8 @@ impl Ways {
 
     /// Counts a way. Answers false where there are too many.
     fn count(&mut self) -> bool
-        ensures { self.new.runs ≡ self.old.runs }
+        ensures runs { self.new.runs ≡ self.old.runs }
+        ensures whole { self.new.is_whole ≡ true → (self.old.is_whole ≡ true) × (result ≡ true) }
     {
         if self.left == 0 {
             self.is_whole = false;
@@ -85,7 +90,9 @@ impl Ways {
         requires way { IsOnWay asked.now.test.now asked.now.thread.now hart.now }
         requires end { slice_get asked.now.thread.now.steps.items hart.now.next ≡ None }
         requires runs { All (IsRun asked.now.test.now asked.now.thread.now) self.old.runs.items }
-        ensures { OnOk result (All (IsRun asked.now.test.now asked.now.thread.now) self.new.runs.items) }
+        ensures runs { OnOk result (All (IsRun asked.now.test.now asked.now.thread.now) self.new.runs.items) }
+        ensures kept { OnOk result (KeepsWays self.old self.new) }
+        ensures listed { OnOk result (self.new.is_whole ≡ true → IsListed self.new.runs.items hart.now) }
     {
         if !self.count() {
             return Ok(());
@@ -100,7 +107,8 @@ impl Ways {
 
     /// Leaves out what comes behind here.
     fn cut(&mut self)
-        ensures { self.new.runs ≡ self.old.runs }
+        ensures runs { self.new.runs ≡ self.old.runs }
+        ensures whole { self.new.is_whole ≡ false }
     {
         self.is_whole = false;
         self.count();
@@ -141,6 +149,12 @@ pub(crate) fn follow(
     requires written { AreKnown asked.now.test.now written.old.known }
     ensures runs { OnOk result (All (IsRun asked.now.test.now asked.now.thread.now) ways.new.runs.items) }
     ensures written { OnOk result (AreKnown asked.now.test.now written.new.known) }
+    ensures kept { OnOk result (Grows written.old.known written.new.known) }
+    ensures listed { OnOk result (ways.new.is_whole ≡ true → AreAllListed asked.now.has_conditionals
+        asked.now.thread.now asked.now.known.now.held.items ways.new.runs.items) }
+    ensures learnt { OnOk result (ways.new.is_whole ≡ true → written.new.known.is_whole ≡ true
+        → AreAllLearnt asked.now.has_conditionals asked.now.thread.now asked.now.known.now.held.items
+        written.new.known.held.items) }
 {
     let mut going = Vec::new(alloc);
     going.push(at_start(asked, alloc))?;
@@ -156,7 +170,10 @@ pub(crate) fn follow(
 
 /// The hart at its first step.
 fn at_start(asked: &Asked<'_, '_, '_>, alloc: Global) -> Going
-    ensures { IsOnWay asked.now.test.now asked.now.thread.now result.hart }
+    ensures way { IsOnWay asked.now.test.now asked.now.thread.now result.hart }
+    ensures start { IsAtStart asked.now.thread.now result.hart }
+    ensures size { length result.hart.registers ≡ 32 }
+    ensures before { result.before.items ≡ [] }
 {
     Going {
         hart: Hart::new(asked.thread, alloc),
@@ -182,24 +199,30 @@ fn go_on(
     ensures going { OnOk result (AreGoing asked.now.test.now asked.now.thread.now going.new.items) }
     ensures runs { OnOk result (All (IsRun asked.now.test.now asked.now.thread.now) ways.new.runs.items) }
     ensures written { OnOk result (AreKnown asked.now.test.now written.new.known) }
+    ensures kept { OnOk result (Grows written.old.known written.new.known) }
+    ensures learnt { OnOk result (written.new.known.is_whole ≡ true
+        → IsLastLearnt written.new.known.held.items from.hart.accesses.items) }
+    ensures ways { OnOk result (KeepsWays ways.old ways.new) }
+    ensures all { OnOk result (HasGoneBeyond asked.now.has_conditionals asked.now.thread.now
+        asked.now.known.now.held.items from going.old.items going.new.items ways.new) }
 {
     let hart = &from.hart;
+    written.learn(asked, hart)?;
     let Some(step) = step_at(asked.thread, hart.next) else {
-        ways.list(asked, hart, alloc)?;
-        return written.learn(asked, hart);
+        return ways.list(asked, hart, alloc);
     };
     let standing = Standing::of(hart, asked.has_conditionals);
     if is_needless(from.before.as_slice(), &standing, step) {
         ways.count();
-        return written.learn(asked, hart);
+        return Ok(());
     }
     if from.before.len() >= MOST_STEPS_RUN || ways.left == 0 {
         ways.cut();
-        return written.learn(asked, hart);
+        return Ok(());
     }
     let Some(all) = hart.all_found(step, asked.known, alloc)? else {
         ways.cut();
-        return written.learn(asked, hart);
+        return Ok(());
     };
     go_on_by(asked, &from, standing, step, all, going, ways, alloc)
 }
@@ -220,8 +243,14 @@ fn go_on_by(
     requires known { AreKnown asked.now.test.now asked.now.known.now }
     requires all { All (MayFind asked.now.known.now.held.items step from.now.hart) all.items }
     requires going { AreGoing asked.now.test.now asked.now.thread.now going.old.items }
+    requires standing { IsStandingOf asked.now.has_conditionals from.now.hart standing }
     ensures going { OnOk result (AreGoing asked.now.test.now asked.now.thread.now going.new.items) }
     ensures runs { ways.new.runs ≡ ways.old.runs }
+    ensures whole { ways.new.is_whole ≡ true → ways.old.is_whole ≡ true }
+    ensures left { OnOk result (HasLeft from.now.hart going.old.items going.new.items) }
+    ensures each { OnOk result (ways.new.is_whole ≡ true → (found : Found) → Contains all.items found
+        → IsGoneBy asked.now.has_conditionals asked.now.thread.now asked.now.known.now.held.items from.now step found
+        going.new.items) }
 {
     while let Some(found) = all.pop() {
         go_on_with(asked, from, standing, step, found, going, ways, alloc)?;
@@ -245,8 +274,13 @@ fn go_on_with(
     requires known { AreKnown asked.now.test.now asked.now.known.now }
     requires found { MayFind asked.now.known.now.held.items step from.now.hart found }
     requires going { AreGoing asked.now.test.now asked.now.thread.now going.old.items }
+    requires standing { IsStandingOf asked.now.has_conditionals from.now.hart standing }
     ensures going { OnOk result (AreGoing asked.now.test.now asked.now.thread.now going.new.items) }
     ensures runs { ways.new.runs ≡ ways.old.runs }
+    ensures whole { ways.new.is_whole ≡ true → ways.old.is_whole ≡ true }
+    ensures left { OnOk result (HasLeft from.now.hart going.old.items going.new.items) }
+    ensures gone { OnOk result (ways.new.is_whole ≡ true → IsGoneBy asked.now.has_conditionals
+        asked.now.thread.now asked.now.known.now.held.items from.now step found going.new.items) }
 {
     let Some(hart) = from.hart.behind(step, found, alloc)? else {
         ways.cut();

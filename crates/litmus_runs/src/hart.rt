@@ -1,10 +1,11 @@
 //! One hart on its way through its steps, which is given the numbers that it reads. What an instruction computes and
 //! what it does is `rv_execute`'s to say.
 
-ghost use Rattle.std.specs.Prelude.{◌≡◌, ◌<◌, ℕ, true, All, IfOk, IfSome, slice_index};
+ghost use Rattle.std.specs.Prelude.{◌≡◌, ◌<◌, ℕ, true, All, Contains, length, IfOk, IfSome, slice_index};
 ghost use Rattle.litmus_tests.specs.WellFormed.{is_straight};
 ghost use Rattle.litmus_runs.specs.Steps.{behind_branch, op_of, HasExecuted, HasGoneOn, HasTaken};
 ghost use Rattle.litmus_runs.specs.Ways.{started, IsAtStart, MayFind};
+ghost use Rattle.litmus_runs.specs.AllWays.{IsPlainAt};
 
 use crate::access::Access;
 use crate::finding::{Found, all_found};
@@ -33,7 +34,8 @@ pub(crate) struct Hart {
 
 impl Hart {
     pub fn new(thread: &Thread, alloc: Global) -> Hart
-        ensures { IsAtStart thread.now result }
+        ensures start { IsAtStart thread.now result }
+        ensures size { length result.registers ≡ 32 }
     {
         let mut registers = [0_u32; 32];
         write_starts(&mut registers, thread.starts.as_slice());
@@ -53,8 +55,11 @@ impl Hart {
         known: &Known,
         alloc: Global,
     ) -> Result<Option<Vec<Found>>, AllocError>
-        ensures { IfOk result (λ found. IfSome found (λ all.
+        ensures each { IfOk result (λ found. IfSome found (λ all.
             All (MayFind known.now.held.items step self.now) all.items)) }
+        ensures all { IfOk result (λ found. IfSome found (λ all. (one : Found)
+            → MayFind known.now.held.items step self.now one → IsPlainAt step self.now one
+            → Contains all.items one)) }
     {
         let op = op_of(step);
         let address = computed_by(op, &self.registers).addr;
@@ -69,7 +74,8 @@ impl Hart {
         found: Found,
         alloc: Global,
     ) -> Result<Option<Hart>, AllocError>
-        ensures { IfOk result (λ next. IfSome next (HasTaken step found self.now)) }
+        ensures taken { IfOk result (λ next. IfSome next (HasTaken step found self.now)) }
+        ensures size { IfOk result (λ next. IfSome next (λ hart. length hart.registers ≡ 32)) }
     {
         match step {
             LitmusStep::Straight(instr) => self.executed(instr, found, alloc),
@@ -103,7 +109,8 @@ impl Hart {
         found: Found,
         alloc: Global,
     ) -> Result<Option<Hart>, AllocError>
-        ensures { IfOk result (λ next. IfSome next (HasExecuted instr found self.now)) }
+        ensures executed { IfOk result (λ next. IfSome next (HasExecuted instr found self.now)) }
+        ensures size { IfOk result (λ next. IfSome next (λ hart. length hart.registers ≡ 32)) }
     {
         if !is_straight(instr) {
             return Ok(None);

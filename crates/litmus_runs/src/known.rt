@@ -1,7 +1,8 @@
 //! The numbers that a read may find at each word of the locations. What is called a location here is such a word.
 
-ghost use Rattle.std.specs.Prelude.{◌≡◌, IfOk, OnOk};
+ghost use Rattle.std.specs.Prelude.{◌≡◌, true, All, Contains, IfOk, OnOk};
 ghost use Rattle.litmus_runs.specs.Ways.{AreKnown, MayHave};
+ghost use Rattle.litmus_runs.specs.AllWays.{Grows, HasInitial};
 
 use crate::number::initial_number;
 use litmus_tests::LitmusTest;
@@ -27,7 +28,8 @@ pub(crate) struct Known {
 
 impl Known {
     pub fn new(test: &LitmusTest, alloc: Global) -> Result<Known, AllocError>
-        ensures { IfOk result (AreKnown test.now) }
+        ensures known { IfOk result (AreKnown test.now) }
+        ensures initial { IfOk result (λ known. HasInitial test.now known.held.items) }
     {
         let mut held = Vec::new(alloc);
         for location in 0..test.words.len() {
@@ -43,7 +45,8 @@ impl Known {
 
     /// A copy of it, to add to.
     pub fn copy(&self, alloc: Global) -> Result<Known, AllocError>
-        ensures { IfOk result (λ copy. copy.held.items ≡ self.now.held.items) }
+        ensures held { IfOk result (λ copy. copy.held.items ≡ self.now.held.items) }
+        ensures whole { IfOk result (λ copy. copy.is_whole ≡ self.now.is_whole) }
     {
         Ok(Known {
             held: self.held.as_slice().to_vec(alloc)?,
@@ -55,7 +58,10 @@ impl Known {
     pub fn add(&mut self, test: &LitmusTest, location: usize, number: u32) -> Result<(), AllocError>
         requires may { MayHave test.now location number }
         requires known { AreKnown test.now self.old }
-        ensures { OnOk result (AreKnown test.now self.new) }
+        ensures known { OnOk result (AreKnown test.now self.new) }
+        ensures kept { OnOk result (Grows self.old self.new) }
+        ensures added { OnOk result (self.new.is_whole ≡ true
+            → Contains self.new.held.items (record { location = location; number = number })) }
     {
         let new = Held { location, number };
         if holds(self.held.as_slice(), new) {
@@ -70,11 +76,26 @@ impl Known {
     }
 }
 
-fn holds(all: &[Held], wanted: Held) -> bool {
+/// Whether a number is among these.
+pub(crate) fn holds(all: &[Held], wanted: Held) -> bool
+    ensures { result ≡ true → Contains all.now wanted }
+{
     for held in all {
         if held.location == wanted.location && held.number == wanted.number {
             return true;
         }
     }
     false
+}
+
+/// Whether each of these was known before.
+pub(crate) fn has_nothing_new(known: &[Held], written: &[Held]) -> bool
+    ensures { result ≡ true → All (Contains known.now) written.now }
+{
+    for held in written {
+        if !holds(known, *held) {
+            return false;
+        }
+    }
+    true
 }

@@ -12,7 +12,7 @@ use rv_instr::{Kind, Op};
 use std::alloc::{AllocError, Global};
 
 /// The access that an instruction makes, and of a store-conditional, which access has reserved its word.
-pub(crate) fn access_of(
+pub fn access_of(
     op: Op,
     found: Found,
     write: Option<Written>,
@@ -59,7 +59,7 @@ fn reserved_by(op: Op, reserving: usize) -> Option<usize>
 }
 
 /// Which access was the last load-reserved, behind one with this index.
-pub(crate) fn reserving(op: Op, before: usize, index: usize) -> usize
+pub fn reserving(op: Op, before: usize, index: usize) -> usize
     ensures { result ≡ reserving_behind (kind_of op) before index }
 {
     match op.kind() {

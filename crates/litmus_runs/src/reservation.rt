@@ -12,7 +12,7 @@ use events::{Effect, Written};
 use rv_instr::{Kind, Op};
 
 /// Whether a reservation is on the word at an address.
-pub(crate) fn holds_word(reserved: Option<u32>, address: u32) -> bool
+pub fn holds_word(reserved: Option<u32>, address: u32) -> bool
     ensures { result ≡ holds_word reserved address }
 {
     match reserved {
@@ -22,12 +22,7 @@ pub(crate) fn holds_word(reserved: Option<u32>, address: u32) -> bool
 }
 
 /// The reservation of a hart behind its own instruction with this effect.
-pub(crate) fn reservation_after(
-    op: Op,
-    address: u32,
-    effect: Effect,
-    reserved: Option<u32>,
-) -> Option<u32>
+pub fn reservation_after(op: Op, address: u32, effect: Effect, reserved: Option<u32>) -> Option<u32>
     ensures { result ≡ reservation_after op address effect true reserved }
 {
     if effect.next.is_last() {

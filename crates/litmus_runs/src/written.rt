@@ -1,7 +1,8 @@
 //! What the ways of harts write: new numbers, and how often each location.
 
-ghost use Rattle.std.specs.Prelude.{◌≡◌, IfOk, OnOk, Some, slice_get};
+ghost use Rattle.std.specs.Prelude.{◌≡◌, true, IfOk, OnOk, Some, slice_get};
 ghost use Rattle.litmus_runs.specs.Ways.{AreKnown, IsOnWay};
+ghost use Rattle.litmus_runs.specs.AllWays.{Grows, IsLastLearnt};
 
 use crate::access::Access;
 use crate::following::Asked;
@@ -24,7 +25,8 @@ pub(crate) struct Written {
 impl Written {
     pub fn new(test: &LitmusTest, known: &Known, alloc: Global) -> Result<Written, AllocError>
         requires { AreKnown test.now known.now }
-        ensures { IfOk result (λ written. AreKnown test.now written.known) }
+        ensures known { IfOk result (λ written. AreKnown test.now written.known) }
+        ensures kept { IfOk result (λ written. Grows known.now written.known) }
     {
         let copy = known.copy(alloc)?;
         let most = zeros(test.words.len(), alloc)?;
@@ -36,20 +38,24 @@ impl Written {
         })
     }
 
-    /// Takes in what a hart has done on its way so far.
+    /// Takes in what a hart has done last on its way; what it had done before was taken in as it stood there.
     pub fn learn(&mut self, asked: &Asked<'_, '_, '_>, hart: &Hart) -> Result<(), AllocError>
         requires thread { slice_get asked.now.test.now.threads.items asked.now.index ≡ Some asked.now.thread.now }
         requires way { IsOnWay asked.now.test.now asked.now.thread.now hart.now }
         requires known { AreKnown asked.now.test.now self.old.known }
-        ensures { OnOk result (AreKnown asked.now.test.now self.new.known) }
+        ensures known { OnOk result (AreKnown asked.now.test.now self.new.known) }
+        ensures kept { OnOk result (Grows self.old.known self.new.known) }
+        ensures learnt { OnOk result (self.new.known.is_whole ≡ true
+            → IsLastLearnt self.new.known.held.items hart.now.accesses.items) }
     {
-        raise(&mut self.by_hart, hart.accesses.as_slice());
-        for access in hart.accesses.iter() {
-            if let Some(number) = access.writes {
-                self.known.add(asked.test, access.location, number)?;
-            }
-        }
-        Ok(())
+        let Some(access) = hart.accesses.last() else {
+            return Ok(());
+        };
+        let Some(number) = access.writes else {
+            return Ok(());
+        };
+        raise(&mut self.by_hart, hart.accesses.as_slice(), access.location);
+        self.known.add(asked.test, access.location, number)
     }
 
     /// A hart was followed on all its ways.
@@ -81,9 +87,9 @@ pub(crate) fn zeros(count: usize, alloc: Global) -> Result<Vec<usize>, AllocErro
     Ok(all)
 }
 
-/// Keeps the greater of how often each location was written and how often these accesses write it.
-fn raise(most: &mut Vec<usize>, accesses: &[Access]) {
-    for (location, count) in most.iter_mut().enumerate() {
+/// Keeps the greater of how often a location was written and how often these accesses write it.
+fn raise(most: &mut Vec<usize>, accesses: &[Access], location: usize) {
+    if let Some(count) = most.get_mut(location) {
         *count = (*count).max(count_writes(accesses, location));
     }
 }

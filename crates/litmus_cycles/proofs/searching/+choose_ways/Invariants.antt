@@ -4,10 +4,10 @@ use Rattle.litmus_cycles.proofs.{Wholes.wanted_below, Counting.count_below}
 use Rattle.litmus_cycles.proofs.searching.+choose_ways.Given as goal
 
 abbrev pub decreases-choose_ways : goal.decreases-choose_ways
-decreases-choose_ways l = length l.left.now
+decreases-choose_ways g l = length l.left.now
 
 abbrev pub invariant-loop-index : goal.invariant-loop-index
-invariant-loop-index l = record {
+invariant-loop-index g l = record {
   found : IsFound l.test l.findings;
   searches : Searches l.demand (wanted_below l.test l.runs l.demand l.chosen l.rest l.index) l.initial.findings
       l.findings;
