@@ -1,4 +1,5 @@
 pub mod Files
+pub mod Names
 pub mod Performed
 pub mod ProgressLine
 pub mod ReadFiles

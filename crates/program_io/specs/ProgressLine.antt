@@ -33,6 +33,13 @@ states_text states left = decimal states ++ (codes " states, " ++ (decimal left 
 abbrev pub search_line : ℕ → ℕ → ℕ → List ℕ
 search_line states left seconds = 13 ∷ (codes "smtsim: " ++ (states_text states left ++ seconds_text seconds))
 
+-- How many choices of executions were tried.
+abbrev pub choices_text : ℕ → List ℕ
+choices_text choices = decimal choices ++ codes " choices, "
+
+abbrev pub choices_line : ℕ → ℕ → List ℕ
+choices_line choices seconds = 13 ∷ (codes "smtsim: " ++ (choices_text choices ++ seconds_text seconds))
+
 -- From the beginning of the line on.
 abbrev pub progress_line : ℕ → ℕ → ℕ → ℕ → ℕ → List ℕ
 progress_line events limit seconds run times =

@@ -2,7 +2,7 @@ ghost use Rattle.std.specs.Prelude.{◌≡◌, ◌≤◌, ◌%◌, ◌^◌, ◌+
 ghost use Rattle.arrayvec.specs.ArrayString.{array_string_len};
 ghost use Rattle.std.specs.Bool.{then_some};
 ghost use Rattle.program_io.specs.ProgressLine.{progress_line, run_text, events_text, seconds_text};
-ghost use Rattle.program_io.specs.ProgressLine.{rounds_line, steps_text, search_line, states_text};
+ghost use Rattle.program_io.specs.ProgressLine.{rounds_line, steps_text, search_line, states_text, choices_line, choices_text};
 
 use actors::{Gate, Point};
 use arrayvec::ArrayString;
@@ -163,6 +163,15 @@ impl<C: Clock + Copy, W: Write + Copy> Gate for Progress<C, W> {
         }
     }
 
+    fn at_choices(&self, choices: u32) {
+        if self.terminal.is_none() {
+            return;
+        }
+        if let Some(seconds) = self.seconds_if_due() {
+            self.show_line(&choices_line_of(choices, seconds));
+        }
+    }
+
     fn at(&self, actor: u8, point: Point, seen: &BoardView) -> bool
         ensures { result ≡ true }
     {
@@ -263,6 +272,28 @@ fn push_states(line: &mut ProgressLine, states: u32, left: u32)
     line.push_str(" states, ");
     push_decimal(line, left);
     line.push_str(" to look at, ");
+}
+
+/// The line of a search for executions that has tried so many choices, in so many seconds.
+fn choices_line_of(choices: u32, seconds: u64) -> ProgressLine
+    ensures { result.bytes ≡ choices_line choices seconds }
+{
+    let mut line = ProgressLine::new();
+    push_ascii(&mut line, b'\r');
+    line.push_str("smtsim: ");
+    push_choices(&mut line, choices);
+    push_seconds(&mut line, seconds);
+    line
+}
+
+/// How many choices there are.
+fn push_choices(line: &mut ProgressLine, choices: u32)
+    requires { array_string_len line.old ≤ 16 }
+    ensures spelled { line.new.bytes ≡ line.old.bytes ++ choices_text choices }
+    ensures length { array_string_len line.new ≤ 130 }
+{
+    push_decimal(line, choices);
+    line.push_str(" choices, ");
 }
 
 /// How many events there are, out of how many.

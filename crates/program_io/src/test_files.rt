@@ -1,8 +1,9 @@
 //! The tests of a line that names several, read from their files one at a time.
 
-ghost use Rattle.std.specs.Prelude.{◌≡◌};
+ghost use Rattle.std.specs.Prelude.{◌≡◌, length};
 ghost use Rattle.plain_commands.specs.Suite.{IsKnown};
 ghost use Rattle.commands.specs.Suites.{suite_status_of};
+ghost use Rattle.program_io.specs.Names.{owed, IsGiven};
 
 use crate::files::read_file;
 use crate::hinting::Hinting;
@@ -46,7 +47,9 @@ impl<'a, S: Files + Input, E: Write> TestFiles<'a, S, E> {
         is_alone: bool,
         hinting: Hinting,
         err: &'a mut E,
-    ) -> Self {
+    ) -> Self
+        ensures { owed result.names ≡ length words.now }
+    {
         TestFiles {
             system,
             line,
@@ -89,7 +92,9 @@ impl<'a, S: Files + Input, E: Write> TestFiles<'a, S, E> {
     }
 
     /// Tells why a name comes to no test.
-    fn tell_absent(&mut self, absent: &Absent) {
+    fn tell_absent(&mut self, absent: &Absent)
+        ensures { self.new.names ≡ self.old.names }
+    {
         let why = absent.why;
         let mut place = absent.path.as_slice();
         if self.is_alone {
@@ -105,9 +110,10 @@ impl<'a, S: Files + Input, E: Write> TestFiles<'a, S, E> {
 }
 
 impl<S: Files + Input, E: Write> TestSource for TestFiles<'_, S, E> {
-    ghost gives = { λ source given after. Unit {0} };
+    // Each name comes to a test, or to why it is none.
+    ghost gives = { λ source given after. IsGiven (owed source.names) given (owed after.names) };
 
-    ghost hears = { λ source refused after. Unit {0} };
+    ghost hears = { λ source refused after. owed after.names ≡ owed source.names };
 
     fn next(&mut self) -> Option<Result<Vec<u8>, NoTest>> {
         let alloc = self.hinting.alloc;

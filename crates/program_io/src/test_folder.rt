@@ -1,5 +1,7 @@
 //! The tests of a folder, by the names of their files.
 
+ghost use Rattle.std.specs.Prelude.{◌≡◌, IfOk, None, false, true};
+
 use crate::files::{read_to_end, unopened};
 use crate::test_names::{Absent, is_folder};
 use litmus_suites::NoTest;
@@ -27,7 +29,9 @@ pub(crate) struct TestFolder {
 
 impl TestFolder {
     /// Reads the names in a folder.
-    pub(crate) fn open<S: Files>(system: &S, path: &str, alloc: Global) -> Result<Self, Absent> {
+    pub(crate) fn open<S: Files>(system: &S, path: &str, alloc: Global) -> Result<Self, Absent>
+        ensures { IfOk result (λ folder. folder.is_empty ≡ true) }
+    {
         let Ok(with_slash) = with_slash(path, alloc) else {
             return Err(Absent::for_memory(alloc));
         };
@@ -59,7 +63,9 @@ impl TestFolder {
         &mut self,
         system: &S,
         alloc: Global,
-    ) -> Option<Result<String, Absent>> {
+    ) -> Option<Result<String, Absent>>
+        ensures { result ≡ None → self.old.is_empty ≡ false }
+    {
         for _turn in 0..u64::MAX {
             let Some(name) = self.names.get(self.taken) else {
                 break;

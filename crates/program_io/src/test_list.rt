@@ -1,5 +1,7 @@
 //! A list of the names of tests, read a name at a time.
 
+ghost use Rattle.std.specs.Prelude.{◌≡◌, None, Ok, false, true};
+
 use crate::test_names::{Absent, TestName};
 use litmus_suites::{ListFault, NoTest};
 use std::alloc::{AllocError, Global};
@@ -20,7 +22,9 @@ pub(crate) struct TestList {
 
 impl TestList {
     /// The list with this text, at this path.
-    pub(crate) fn new(path: String, text: Vec<u8>) -> Self {
+    pub(crate) fn new(path: String, text: Vec<u8>) -> Self
+        ensures { result.is_empty ≡ true }
+    {
         TestList {
             path,
             text,
@@ -41,7 +45,9 @@ impl TestList {
     }
 
     /// The next name; none behind the last. A list without a name is refused.
-    pub(crate) fn next_name(&mut self, alloc: Global) -> Result<Option<TestName>, Absent> {
+    pub(crate) fn next_name(&mut self, alloc: Global) -> Result<Option<TestName>, Absent>
+        ensures { result ≡ Ok None → self.old.is_empty ≡ false }
+    {
         match self.next_word(alloc) {
             Err(AllocError) => Err(Absent::for_memory(alloc)),
             Ok(Some(word)) => match self.name_of(word.as_slice(), alloc) {
@@ -57,7 +63,9 @@ impl TestList {
     }
 
     /// What stands in the next line that has a word: without its comment, and without blanks at its ends.
-    fn next_word(&mut self, alloc: Global) -> Result<Option<Vec<u8>>, AllocError> {
+    fn next_word(&mut self, alloc: Global) -> Result<Option<Vec<u8>>, AllocError>
+        ensures { result ≡ Ok None → self.new.is_empty ≡ self.old.is_empty }
+    {
         for _turn in 0..u64::MAX {
             let Some(left) = self.text.as_slice().get(self.at..) else {
                 return Ok(None);

@@ -1,5 +1,8 @@
 //! The names of the tests of a line: as they are written, in folders, and in lists of names.
 
+ghost use Rattle.std.specs.Prelude.{◌≡◌, ◌≤◌, ◌+◌, None, Ok, OnOk, length};
+ghost use Rattle.program_io.specs.Names.{owed, owed_of_names};
+
 use crate::files::{ReadRefused, read_file};
 use crate::read_files::is_same_file;
 use crate::test_folder::TestFolder;
@@ -99,7 +102,7 @@ impl TestName {
 
 /// The names of the tests of a line, in their order.
 #[derive(Drop)]
-pub(crate) struct TestNames<'a, S: Files + Input> {
+pub(crate) struct TestNames<'a, S> {
     system: &'a S,
     /// The names as they are written, and how many of them are taken.
     words: &'a [&'a str],
@@ -113,7 +116,9 @@ pub(crate) struct TestNames<'a, S: Files + Input> {
 
 impl<'a, S: Files + Input> TestNames<'a, S> {
     /// The names of these words.
-    pub(crate) fn new(system: &'a S, words: &'a [&'a str], alloc: Global) -> Self {
+    pub(crate) fn new(system: &'a S, words: &'a [&'a str], alloc: Global) -> Self
+        ensures { owed result ≡ length words.now }
+    {
         TestNames {
             system,
             words,
@@ -124,8 +129,12 @@ impl<'a, S: Files + Input> TestNames<'a, S> {
         }
     }
 
-    /// The path of the next test, or why a name comes to none; none behind the last.
-    pub(crate) fn next_path(&mut self) -> Option<Result<String, Absent>> {
+    /// The path of the next test, or why a name comes to none; none behind the last, when each name has come to
+    /// something.
+    pub(crate) fn next_path(&mut self) -> Option<Result<String, Absent>>
+        ensures last { result ≡ None → owed self.old ≡ 0 }
+        ensures next { owed self.old ≤ owed self.new + 1 }
+    {
         for _turn in 0..u64::MAX {
             if let Some(next) = self.next_of_folder() {
                 return Some(next);
@@ -141,11 +150,16 @@ impl<'a, S: Files + Input> TestNames<'a, S> {
                 Err(absent) => return Some(Err(absent)),
             }
         }
-        None
+        // There is no memory for so many.
+        Some(Err(Absent::for_memory(self.alloc)))
     }
 
     /// The next test of the folder that is open; none behind its last.
-    fn next_of_folder(&mut self) -> Option<Result<String, Absent>> {
+    fn next_of_folder(&mut self) -> Option<Result<String, Absent>>
+        ensures names { owed_of_names self.new ≡ owed_of_names self.old }
+        ensures last { result ≡ None → self.new.folder ≡ None }
+        ensures nothing { result ≡ None → owed self.old ≤ owed self.new }
+    {
         let mut folder = self.folder.take()?;
         let next = folder.next_path(self.system, self.alloc)?;
         self.folder = Some(folder);
@@ -153,11 +167,12 @@ impl<'a, S: Files + Input> TestNames<'a, S> {
     }
 
     /// The next name of the list that was opened last, or of the words; none behind the last of all.
-    fn next_name(&mut self) -> Result<Option<TestName>, Absent> {
-        for _list in 0..MOST_LISTS {
-            let Some(mut list) = self.lists.pop() else {
-                break;
-            };
+    fn next_name(&mut self) -> Result<Option<TestName>, Absent>
+        ensures folder { self.new.folder ≡ self.old.folder }
+        ensures last { result ≡ Ok None → owed_of_names self.old ≡ 0 }
+        ensures next { owed_of_names self.old ≤ owed_of_names self.new + 1 }
+    {
+        while let Some(mut list) = self.lists.pop() {
             let next = list.next_name(self.alloc);
             if let Ok(None) = next {
                 continue;
@@ -178,7 +193,11 @@ impl<'a, S: Files + Input> TestNames<'a, S> {
     }
 
     /// The path of a name, where it is a test; none where it is a list or a folder, which is open now.
-    fn opened(&mut self, name: TestName) -> Result<Option<String>, Absent> {
+    fn opened(&mut self, name: TestName) -> Result<Option<String>, Absent>
+        requires { self.old.folder ≡ None }
+        ensures open { result ≡ Ok None → owed self.old + 1 ≤ owed self.new }
+        ensures stays { owed self.old ≤ owed self.new }
+    {
         let TestName { is_list, path } = name;
         if is_list {
             self.open_list(path)?;
@@ -192,7 +211,11 @@ impl<'a, S: Files + Input> TestNames<'a, S> {
     }
 
     /// Opens a list. Refused where it is open already, or too many are.
-    fn open_list(&mut self, path: String) -> Result<(), Absent> {
+    fn open_list(&mut self, path: String) -> Result<(), Absent>
+        ensures folder { self.new.folder ≡ self.old.folder }
+        ensures open { OnOk result (owed_of_names self.old + 1 ≤ owed_of_names self.new) }
+        ensures stays { owed_of_names self.old ≤ owed_of_names self.new }
+    {
         if let Some(list) = self.lists.last() {
             if self.is_open(path.as_str()) {
                 return Err(list.refused(ListFault::Itself, self.alloc));
