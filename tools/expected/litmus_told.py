@@ -2,6 +2,7 @@
 """Holds what `smtsim litmus TEST --why` tells against the tests alone.
 
     litmus_told.py PROGRAM [--tests N] [--seed N]    families by name, other cycles by their edges, and N random tests
+    litmus_told.py PROGRAM --images ..               the same of each test's program, by `smtsim outcomes IMAGE --why`
     litmus_told.py --show NAME                       the test that is made of a name
 
 A name is that of a family (Maranget, Sarkar and Sewell, "A tutorial introduction to the ARM and POWER relaxed memory
@@ -191,6 +192,42 @@ def told_of(program, text, folder):
     return [] if lines[behind + 1].startswith("why: ") else lines[behind + 1:]
 
 
+def told_of_image(program, text, folder):
+    """What the program tells of the test's program, as lines without the places of its instructions."""
+    with open(f"{folder}/test", "w", encoding="latin-1") as file:
+        file.write(text)
+    subprocess.run([program, "litmus", f"{folder}/test", "--image", f"{folder}/image"], capture_output=True, check=True)
+    test = litmus_reading.read(text)
+    # What nobody asks for, and one hart alone touches, is no location of a program.
+    parts = [f"({name}=0 | !({name}=0))" for name in test.declared]
+    parts += [spelled(asked, "(x5@0=0 | !(x5@0=0))") for asked in (test.question.condition, test.question.filter)]
+    words = [program, "outcomes", f"{folder}/image", "--harts", str(len(test.code)), "--why", " & ".join(parts)]
+    done = subprocess.run(words, capture_output=True, text=True, check=False)
+    lines = done.stdout.split("\n")[:-1]
+    behind = next(k for k, line in enumerate(lines) if line.startswith("never: "))
+    if lines[behind] != "never: yes":
+        return []
+    return [line.partition(" at 8")[0] for line in lines[behind + 1:]]
+
+
+def spelled(condition, always):
+    """A condition as `smtsim outcomes` reads it, by one that always holds."""
+    kind, *parts = condition
+    if kind == "true":
+        return always
+    if kind == "term":
+        what, value = parts
+        name = f"x{what[1]}@{what[0]}" if isinstance(what, tuple) else what
+        return f"{name}={value % 2**32}"
+    texts = [f"({spelled(part, always)})" for part in parts]
+    if kind in ("and", "or"):
+        return (" & " if kind == "and" else " | ").join(texts)
+    first, second = texts[0], texts[-1]
+    return {
+        "not": f"!{first}", "implies": f"!{first} | {second}", "iff": f"({first} & {second}) | (!{first} & !{second})",
+    }[kind]
+
+
 def may_be_told(text):
     """All that may be told of a test: each of the candidates that may be shown, with each of its cycles."""
     found = litmus_why.Found(litmus_reading.read(text), None)
@@ -214,20 +251,20 @@ def edges_of(lines):
     return found
 
 
-def judge_names(program, names, folder):
+def judge_names(program, names, folder, told_of):
     wrong = 0
     for name in names:
-        spelled = Spelled(name)
-        text = spelled.text(name)
+        cycle = Spelled(name)
+        text = cycle.text(name)
         said = told_of(program, text, folder)
-        if edges_of(said) != spelled.told() or said not in may_be_told(text):
-            print(f"{name}: told {said[:2]}, spelled {sorted(spelled.told())}")
+        if edges_of(said) != cycle.told() or said not in may_be_told(text):
+            print(f"{name}: told {said[:2]}, spelled {sorted(cycle.told())}")
             wrong += 1
     print(f"{len(names)} cycles by their names, {wrong} told otherwise")
     return wrong
 
 
-def judge_random(program, count, rng, folder):
+def judge_random(program, count, rng, folder, told_of):
     wrong = forbidden = tried = 0
     kinds = {}
     while forbidden < count:
@@ -253,6 +290,7 @@ def main():
     parser.add_argument("program", nargs="?")
     parser.add_argument("--tests", type=int, default=200)
     parser.add_argument("--seed", type=int, default=1)
+    parser.add_argument("--images", action="store_true")
     parser.add_argument("--show")
     args = parser.parse_args()
     if args.show:
@@ -261,8 +299,9 @@ def main():
     rng = random.Random(args.seed)
     names = [*FAMILIES, *sorted({random_name(rng) for _ in range(60)})[:34]]
     with tempfile.TemporaryDirectory() as folder:
-        wrong = judge_names(args.program, names, folder)
-        wrong += judge_random(args.program, args.tests, rng, folder)
+        told = told_of_image if args.images else told_of
+        wrong = judge_names(args.program, names, folder, told)
+        wrong += judge_random(args.program, args.tests, rng, folder, told)
     return 1 if wrong else 0
 
 

@@ -32,6 +32,10 @@ pub trait Gate {
     /// So many states of the search were found, and so many of them swept. It comes every so many states.
     fn at_states(&self, _states: u32, _swept: u32) {}
 
+    /// So many choices were tried of what reads read and of the orders of writes, in a search for executions. It comes
+    /// every so many choices.
+    fn at_choices(&self, _choices: u32) {}
+
     /// Whether actor `actor` may go on. `seen` is what it read of the board before this turn.
     /// Where it may not, it asks all actors to stop.
     fn at(&self, actor: u8, point: Point, seen: &BoardView) -> bool;

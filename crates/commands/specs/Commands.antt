@@ -6,7 +6,7 @@ use Rattle.elf_image.specs.Image.{ProgramImage}
 use Rattle.core_state.specs.View.{CoreView}
 use Rattle.symbols.specs.Tables.{Table}
 use Rattle.text_fields.specs.{Printing.Prints}
-use Rattle.sim_inputs.specs.{declared.settings.Settings.Settings, Files.written_chart}
+use Rattle.sim_inputs.specs.{declared.settings.Settings.Settings, Files.written_chart, Files.written_of_outcomes}
 use Rattle.sim_inputs.specs.declared.line.ProgramCommand.{ProgramCommand}
 use Rattle.sim_inputs.specs.declared.line.ProgramCommand.TheVariants as commands
 use Rattle.command_parts.specs.{declared.refused.Refused.Refused}
@@ -33,7 +33,7 @@ use Rattle.sim_inputs.specs.Files.{lines_of}
 use Rattle.sim_inputs.specs.declared.line.ChartEnd.{ChartEnd}
 use Rattle.sim_inputs.specs.declared.line.ChartEnd.TheVariants as ends
 use Rattle.commands.specs.List.{IsListRefusal, ListComesTo}
-use Rattle.plain_commands.specs.{Outcomes.IsOutcomesRefusal, Outcomes.OutcomesComeTo, WrittenOrders.wants_order}
+use Rattle.plain_commands.specs.{Outcomes.IsOutcomesRefusal, Outcomes.OutcomesComeTo}
 
 -- When each refusal of `run` comes: of one run, or of as many as are asked for.
 abbrev pub IsRunsRefusal : Option ℕ → RunCommand → Settings → ProgramImage → Table → Refused → Type 0
@@ -149,14 +149,14 @@ IsProgramUnreported (commands.Chart chart) second old new = new ≡ old
 IsProgramUnreported (commands.Outcomes outcomes) second old new = new ≡ old
 IsProgramUnreported _ second old new = ⊥
 
--- The command writes a file that is named for the trace of its core, for its chart, for an order or for a picture of its
--- story, or files of ends into a folder.
+-- The command writes a file that is named for the trace of its core, for its chart, for an order, for a picture of its
+-- story or for one of why, or files of ends into a folder.
 abbrev pub program_writes_file : ProgramCommand → Bool
 program_writes_file (commands.Step step) = is_some step.trace
 program_writes_file (commands.Run run) = if is_some run.times then is_some run.keep else is_some run.trace
 program_writes_file (commands.Plain plain) = is_some plain.story_svg
 program_writes_file (commands.Chart chart) = is_some (written_chart chart)
-program_writes_file (commands.Outcomes outcomes) = wants_order outcomes
+program_writes_file (commands.Outcomes outcomes) = is_some (written_of_outcomes outcomes)
 program_writes_file _ = false
 
 -- The command shows or takes names of its program.

@@ -38,8 +38,8 @@ IsRunRefusal settings _ = ⊥
 
 -- What the command comes to. No role is without an actor. There is a core of this image and these
 -- settings, one of those that may be shown. Its trace is written where that is wanted (`Traced`).
--- What was printed is what is printed of this core, with how many asks of each actor its pass has counted
--- as idle; the exit status is that of its harts.
+-- What was printed is what is printed of this core, with a number of idle asks for each actor, of which nothing is said;
+-- the exit status is that of its harts.
 pub record RunComesTo (settings : Settings) (image : ProgramImage) (wanted : Wants) (marks : Marks)
     (Traced : CoreView → Type 0) (old new : Option (List ℕ)) (exit_status : ℕ) : Type 0 where
   pub accepted : AreAccepted settings

@@ -1,7 +1,8 @@
 //! The execution that an explanation shows, as boxes and arrows: po and co from each event to the next, rf to each
 //! read, and those of the cycle, which are thick and drawn last.
 
-use crate::naming::{instruction_of, write_access, write_event_name};
+use crate::names::Naming;
+use crate::naming::{write_access, write_event_name};
 use crate::scene::{Arrow, Heading, Scene, Shape, mark, none_of, start_text, write_word};
 use crate::verdict::write_verdict;
 use crate::writing::{write_broken, write_way};
@@ -22,8 +23,9 @@ pub(crate) const RELATIONS: [Relation; 5] = [
 ];
 
 /// What is drawn of an explanation.
-pub(crate) fn scene_of(
+pub(crate) fn scene_of<N: Naming>(
     test: &LitmusTest,
+    names: &N,
     explanation: &Explanation,
     alloc: Global,
 ) -> io::Result<Scene> {
@@ -39,10 +41,10 @@ pub(crate) fn scene_of(
     Ok(Scene {
         heading: heading_of(test, explanation, cycle, alloc)?,
         columns: test.threads.len(),
-        shapes: shapes_of(test, events, alloc)?,
+        shapes: shapes_of(names, events, alloc)?,
         arrows: arrows_of(events, cycle, alloc)?,
-        start: start_of(test, events, alloc)?,
-        end: end_of(test, events, alloc)?,
+        start: start_of(test, names, events, alloc)?,
+        end: end_of(test, names, events, alloc)?,
     })
 }
 
@@ -68,16 +70,20 @@ fn heading_of(
     })
 }
 
-fn shapes_of(test: &LitmusTest, events: &[MemoryEvent], alloc: Global) -> io::Result<Vec<Shape>> {
+fn shapes_of<N: Naming>(
+    names: &N,
+    events: &[MemoryEvent],
+    alloc: Global,
+) -> io::Result<Vec<Shape>> {
     let mut shapes = Vec::new(alloc);
     for (index, event) in events.iter().enumerate() {
-        shapes.push(shape_of(test, index, event, alloc)?)?;
+        shapes.push(shape_of(names, index, event, alloc)?)?;
     }
     Ok(shapes)
 }
 
-fn shape_of(
-    test: &LitmusTest,
+fn shape_of<N: Naming>(
+    names: &N,
     index: usize,
     event: &MemoryEvent,
     alloc: Global,
@@ -85,9 +91,9 @@ fn shape_of(
     let mut title = Vec::new(alloc);
     write_event_name(index, &mut title)?;
     title.write_all(b": ")?;
-    write_access(test, event, &mut title)?;
+    write_access(names, event, &mut title)?;
     let mut below = Vec::new(alloc);
-    below.write_all(instruction_of(test, event).as_bytes())?;
+    names.write_instruction(event, &mut below)?;
     Ok(Shape {
         column: usize::from(event.hart),
         row: event.place,
@@ -96,9 +102,14 @@ fn shape_of(
     })
 }
 
-fn start_of(test: &LitmusTest, events: &[MemoryEvent], alloc: Global) -> io::Result<Vec<u8>> {
+fn start_of<N: Naming>(
+    test: &LitmusTest,
+    names: &N,
+    events: &[MemoryEvent],
+    alloc: Global,
+) -> io::Result<Vec<u8>> {
     let accessed = accessed_by(test, events, alloc)?;
-    start_text(test, accessed.as_slice(), alloc)
+    start_text(test, names, accessed.as_slice(), alloc)
 }
 
 /// Which words of the locations the events access.
@@ -111,7 +122,12 @@ fn accessed_by(test: &LitmusTest, events: &[MemoryEvent], alloc: Global) -> io::
 }
 
 /// What is there at the end in the words that the events access: what the last write in coherence order has written.
-fn end_of(test: &LitmusTest, events: &[MemoryEvent], alloc: Global) -> io::Result<Vec<u8>> {
+fn end_of<N: Naming>(
+    test: &LitmusTest,
+    names: &N,
+    events: &[MemoryEvent],
+    alloc: Global,
+) -> io::Result<Vec<u8>> {
     let accessed = accessed_by(test, events, alloc)?;
     let mut text = Vec::new(alloc);
     text.write_all(b"end")?;
@@ -119,7 +135,7 @@ fn end_of(test: &LitmusTest, events: &[MemoryEvent], alloc: Global) -> io::Resul
     for (word, is_wanted) in accessed.iter().enumerate() {
         if *is_wanted {
             text.write_all(between)?;
-            write_word(test, word, last_number(test, events, word), &mut text)?;
+            write_word(names, word, last_number(test, events, word), &mut text)?;
             between = b", ";
         }
     }

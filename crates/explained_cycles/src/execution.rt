@@ -2,7 +2,7 @@
 //! rf to each read, co from each write to the next one of its bytes, and fr from each read to the next write of its
 //! bytes.
 
-use crate::naming::{write_location, write_number};
+use crate::names::Naming;
 use crate::scene::{Arrow, Heading, Scene, Shape, mark, none_of, start_text};
 use litmus_cycles::Relation;
 use litmus_runs::word_of;
@@ -127,7 +127,7 @@ fn write_deed<W: Write>(test: &LitmusTest, deed: &Deed, out: &mut W) -> io::Resu
         Deed::Atomic { addr, old, new, .. } => {
             write_access(test, b"RW ", addr, old, out)?;
             out.write_all(b" ")?;
-            write_number(test, new, out)
+            test.write_number(new, out)
         }
         Deed::Failed { addr } => {
             out.write_all(b"F ")?;
@@ -147,14 +147,14 @@ fn write_access<W: Write>(
     out.write_all(kind)?;
     write_place(test, addr, out)?;
     out.write_all(b" ")?;
-    write_number(test, number, out)
+    test.write_number(number, out)
 }
 
 /// Writes the location that begins at an address; else the address as a number is written.
 fn write_place<W: Write>(test: &LitmusTest, addr: u32, out: &mut W) -> io::Result<()> {
     match word_at(test, addr) {
-        Some(word) if addr % 4 == 0 => write_location(test, word, out),
-        _ => write_number(test, addr, out),
+        Some(word) if addr % 4 == 0 => test.write_location(word, out),
+        _ => test.write_number(addr, out),
     }
 }
 
@@ -172,7 +172,7 @@ fn start_of(test: &LitmusTest, accesses: &[Row], alloc: Global) -> io::Result<Ve
     for row in accesses {
         mark_accessed(test, row, &mut accessed);
     }
-    start_text(test, accessed.as_slice(), alloc)
+    start_text(test, test, accessed.as_slice(), alloc)
 }
 
 fn mark_accessed(test: &LitmusTest, row: &Row, accessed: &mut Vec<bool>) {

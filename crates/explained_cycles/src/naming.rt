@@ -3,7 +3,7 @@
 ghost use Rattle.std.specs.Prelude.{IsTrue};
 ghost use Rattle.rv_instr.specs.Table.{IsInstructionInRange};
 
-use arrayvec::ArrayString;
+use crate::names::Naming;
 use litmus_cycles::{MemoryEvent, Relation};
 use litmus_runs::word_of;
 use litmus_tests::{LitmusStep, LitmusTest, Location, Value, beginning_at};
@@ -32,19 +32,42 @@ pub(crate) fn write_event_name<W: Write>(index: usize, out: &mut W) -> io::Resul
     Ok(())
 }
 
-/// Writes the name of a word of the locations: `x`, and `x[1]` where an element of an array begins it.
-pub(crate) fn write_location<W: Write>(
-    test: &LitmusTest,
-    word: usize,
-    out: &mut W,
-) -> io::Result<()> {
-    let Some(found) = location_in(test, word) else {
-        return write!(out, "{word}");
-    };
-    out.write_all(found.name.as_slice())?;
-    match found.element {
-        Some(element) => write!(out, "[{}]", element.index),
-        None => Ok(()),
+impl Naming for LitmusTest {
+    /// Writes the name of a word of the locations: `x`, and `x[1]` where an element of an array begins it.
+    fn write_location<W: Write>(&self, location: usize, out: &mut W) -> io::Result<()> {
+        let Some(found) = location_in(self, location) else {
+            return write!(out, "{location}");
+        };
+        out.write_all(found.name.as_slice())?;
+        match found.element {
+            Some(element) => write!(out, "[{}]", element.index),
+            None => Ok(()),
+        }
+    }
+
+    /// Writes a number in decimal; where it is an address in the locations, as the name of what is there and how many
+    /// bytes behind its begin.
+    fn write_number<W: Write>(&self, number: u32, out: &mut W) -> io::Result<()> {
+        let byte = number.wrapping_sub(word_of(Value::Address(0))) as usize;
+        let Some(found) = location_in(self, byte / 4) else {
+            return write!(out, "{number}");
+        };
+        out.write_all(found.name.as_slice())?;
+        match byte.saturating_sub(found.begin) {
+            0 => Ok(()),
+            offset => write!(out, "+{offset}"),
+        }
+    }
+
+    fn write_instruction<W: Write>(&self, event: &MemoryEvent, out: &mut W) -> io::Result<()> {
+        match access_of(self, event) {
+            Some(instr) => write_spelling(instr, out),
+            None => Ok(()),
+        }
+    }
+
+    fn write_place<W: Write>(&self, _event: &MemoryEvent, _out: &mut W) -> io::Result<()> {
+        Ok(())
     }
 }
 
@@ -53,28 +76,10 @@ fn location_in(test: &LitmusTest, word: usize) -> Option<&Location> {
     beginning_at(test.locations.as_slice(), word.saturating_mul(4))
 }
 
-/// Writes a number in decimal; where it is an address in the locations, as the name of what is there and how many bytes
-/// behind its begin.
-pub(crate) fn write_number<W: Write>(
-    test: &LitmusTest,
-    number: u32,
-    out: &mut W,
-) -> io::Result<()> {
-    let byte = number.wrapping_sub(word_of(Value::Address(0))) as usize;
-    let Some(found) = location_in(test, byte / 4) else {
-        return write!(out, "{number}");
-    };
-    out.write_all(found.name.as_slice())?;
-    match byte.saturating_sub(found.begin) {
-        0 => Ok(()),
-        offset => write!(out, "+{offset}"),
-    }
-}
-
 /// Writes what an event does: `R x 0`, `W x 1`, `RW x 0 1` for a read and a write at once, and `F x` for a
 /// store-conditional that fails.
-pub(crate) fn write_access<W: Write>(
-    test: &LitmusTest,
+pub(crate) fn write_access<N: Naming, W: Write>(
+    names: &N,
     event: &MemoryEvent,
     out: &mut W,
 ) -> io::Result<()> {
@@ -85,27 +90,31 @@ pub(crate) fn write_access<W: Write>(
         (None, None) => "F ",
     };
     out.write_all(kind.as_bytes())?;
-    write_location(test, event.location, out)?;
-    write_optional(test, event.reads, out)?;
-    write_optional(test, event.writes, out)
+    names.write_location(event.location, out)?;
+    write_optional(names, event.reads, out)?;
+    write_optional(names, event.writes, out)
 }
 
-fn write_optional<W: Write>(test: &LitmusTest, number: Option<u32>, out: &mut W) -> io::Result<()> {
+fn write_optional<N: Naming, W: Write>(
+    names: &N,
+    number: Option<u32>,
+    out: &mut W,
+) -> io::Result<()> {
     match number {
         Some(number) => {
             out.write_all(b" ")?;
-            write_number(test, number, out)
+            names.write_number(number, out)
         }
         None => Ok(()),
     }
 }
 
-/// The spelling of the instruction that makes an access; nothing where its test has none there.
-pub(crate) fn instruction_of(test: &LitmusTest, event: &MemoryEvent) -> ArrayString<40> {
-    match access_of(test, event) {
-        Some(instr) if is_access(instr) => rv_text::print(instr, 0),
-        _ => ArrayString::new(),
+/// Writes the spelling of an instruction that accesses memory; nothing of another one.
+pub fn write_spelling<W: Write>(instr: Instr, out: &mut W) -> io::Result<()> {
+    if !is_access(instr) {
+        return Ok(());
     }
+    out.write_all(rv_text::print(instr, 0).as_bytes())
 }
 
 fn access_of(test: &LitmusTest, event: &MemoryEvent) -> Option<Instr> {

@@ -1,6 +1,6 @@
 //! What a picture shows: a box for each access in the column of its hart, and arrows between them.
 
-use crate::naming::{write_location, write_number};
+use crate::names::Naming;
 use litmus_cycles::Relation;
 use litmus_runs::initial_number;
 use litmus_tests::LitmusTest;
@@ -95,8 +95,9 @@ fn is_between(shape: &Shape, from: &Shape, to: &Shape) -> bool {
 }
 
 /// What is there at the start in the words of the locations of which `is_accessed` says so, in their order.
-pub(crate) fn start_text(
+pub(crate) fn start_text<N: Naming>(
     test: &LitmusTest,
+    names: &N,
     is_accessed: &[bool],
     alloc: Global,
 ) -> io::Result<Vec<u8>> {
@@ -106,7 +107,7 @@ pub(crate) fn start_text(
     for (word, is_wanted) in is_accessed.iter().enumerate() {
         if *is_wanted {
             text.write_all(between)?;
-            write_word(test, word, initial_number(test, word), &mut text)?;
+            write_word(names, word, initial_number(test, word), &mut text)?;
             between = b", ";
         }
     }
@@ -114,16 +115,16 @@ pub(crate) fn start_text(
 }
 
 /// Writes the number of a word of the locations, behind its name.
-pub(crate) fn write_word<W: Write>(
-    test: &LitmusTest,
+pub(crate) fn write_word<N: Naming, W: Write>(
+    names: &N,
     word: usize,
     number: Option<u32>,
     out: &mut W,
 ) -> io::Result<()> {
-    write_location(test, word, out)?;
+    names.write_location(word, out)?;
     if let Some(number) = number {
         out.write_all(b" ")?;
-        write_number(test, number, out)?;
+        names.write_number(number, out)?;
     }
     Ok(())
 }

@@ -1,18 +1,15 @@
 //! An explanation as lines of text.
 
-use crate::naming::{
-    instruction_of, relation_name, write_access, write_event_name, write_location,
-};
+use crate::names::Naming;
+use crate::naming::{relation_name, write_access, write_event_name};
 use crate::verdict::write_verdict;
 use litmus_cycles::{Broken, Edge, Explanation, MemoryEvent, Relation, Shown};
-use litmus_tests::LitmusTest;
 use std::io;
 use std::io::Write;
 
-/// Writes the explanation of a test's state as lines (docs/FORMATS.md). An error is the one that `out`
-/// answered.
-pub fn write_explanation<W: Write>(
-    test: &LitmusTest,
+/// Writes why a state can't come as lines (docs/FORMATS.md). An error is the one that `out` answered.
+pub fn write_explanation<N: Naming, W: Write>(
+    names: &N,
     explanation: &Explanation,
     out: &mut W,
 ) -> io::Result<()> {
@@ -22,17 +19,17 @@ pub fn write_explanation<W: Write>(
         Shown::Nothing => Ok(()),
         Shown::Cycle { events, edges } | Shown::Incoherent { events, edges } => {
             write_cycle(edges.as_slice(), out)?;
-            write_events(test, events.as_slice(), out)?;
-            write_edges(test, events.as_slice(), edges.as_slice(), out)
+            write_events(names, events.as_slice(), out)?;
+            write_edges(names, events.as_slice(), edges.as_slice(), out)
         }
         Shown::Atomicity { events, broken } => {
             write_broken(*broken, out)?;
             out.write_all(b"\n")?;
-            write_events(test, events.as_slice(), out)
+            write_events(names, events.as_slice(), out)
         }
         Shown::Execution { events, order } => {
             write_order(order.as_slice(), out)?;
-            write_events(test, events.as_slice(), out)
+            write_events(names, events.as_slice(), out)
         }
     }
 }
@@ -55,23 +52,25 @@ pub(crate) fn write_way<W: Write>(edges: &[Edge], out: &mut W) -> io::Result<()>
     Ok(())
 }
 
-fn write_events<W: Write>(
-    test: &LitmusTest,
+fn write_events<N: Naming, W: Write>(
+    names: &N,
     events: &[MemoryEvent],
     out: &mut W,
 ) -> io::Result<()> {
     for (index, event) in events.iter().enumerate() {
         write_event_name(index, out)?;
         write!(out, " hart {} ", event.hart)?;
-        write_access(test, event, out)?;
-        let instruction = instruction_of(test, event);
-        writeln!(out, " {instruction}")?;
+        write_access(names, event, out)?;
+        out.write_all(b" ")?;
+        names.write_instruction(event, out)?;
+        names.write_place(event, out)?;
+        out.write_all(b"\n")?;
     }
     Ok(())
 }
 
-fn write_edges<W: Write>(
-    test: &LitmusTest,
+fn write_edges<N: Naming, W: Write>(
+    names: &N,
     events: &[MemoryEvent],
     edges: &[Edge],
     out: &mut W,
@@ -79,7 +78,7 @@ fn write_edges<W: Write>(
     for edge in edges {
         write_event_name(edge.from, out)?;
         write!(out, " -{}", relation_name(edge.relation))?;
-        write_edge_location(test, events, edge, out)?;
+        write_edge_location(names, events, edge, out)?;
         out.write_all(b"-> ")?;
         write_event_name(edge.to, out)?;
         out.write_all(b"\n")?;
@@ -88,8 +87,8 @@ fn write_edges<W: Write>(
 }
 
 /// Writes the location of an edge, which po has none of.
-fn write_edge_location<W: Write>(
-    test: &LitmusTest,
+fn write_edge_location<N: Naming, W: Write>(
+    names: &N,
     events: &[MemoryEvent],
     edge: &Edge,
     out: &mut W,
@@ -98,7 +97,7 @@ fn write_edge_location<W: Write>(
         (Relation::ProgramOrder, _) | (_, None) => Ok(()),
         (_, Some(event)) => {
             out.write_all(b" ")?;
-            write_location(test, event.location, out)
+            names.write_location(event.location, out)
         }
     }
 }

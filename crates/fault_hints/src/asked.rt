@@ -8,7 +8,7 @@ use elf_image::RAM_START;
 use hints::{Hint, Part};
 use outcome_queries::QueryRefused;
 use rv_instr::{UnitKind, unit_name};
-use sim_inputs::{Command, ProgramCommand, QuestionText, read_config};
+use sim_inputs::{Command, OutcomesCommand, ProgramCommand, QuestionText, read_config};
 use std::alloc::{AllocError, Global};
 use watched_outcomes::{WatchedBytes, Width};
 
@@ -114,12 +114,11 @@ pub(crate) fn add_condition(
     hint: &mut Hint,
     alloc: Global,
 ) -> Result<(), AllocError> {
-    let question = match fault.line.command {
-        Command::OfProgram(ProgramCommand::Outcomes(asked)) => asked.question,
-        Command::OfProgram(ProgramCommand::Run(run)) => run.question,
+    let (option, text) = match fault.line.command {
+        Command::OfProgram(ProgramCommand::Outcomes(asked)) => condition_asked(&asked),
+        Command::OfProgram(ProgramCommand::Run(run)) => condition_in(run.question),
         _ => return Ok(()),
     };
-    let (option, text) = condition_in(question);
     add_query(option, text, why, fault, hint, alloc)
 }
 
@@ -136,7 +135,7 @@ enum AskedBy {
 fn options_of(command: &Command<'_>) -> Option<AskedBy> {
     match command {
         Command::OfProgram(ProgramCommand::Outcomes(asked)) => {
-            let (option, _) = condition_in(asked.question);
+            let (option, _) = condition_asked(asked);
             Some(AskedBy::ListAnd(option))
         }
         Command::OfProgram(ProgramCommand::Run(run)) if run.question.is_some() => {
@@ -146,6 +145,15 @@ fn options_of(command: &Command<'_>) -> Option<AskedBy> {
         Command::OfProgram(ProgramCommand::Run(_)) => Some(AskedBy::List),
         _ => None,
     }
+}
+
+/// The option that what is asked of outcomes has its condition from, and the condition.
+fn condition_asked<'a>(asked: &OutcomesCommand<'a>) -> (&'static str, Option<&'a str>) {
+    let (option, text) = condition_in(asked.question);
+    if asked.why {
+        return ("--why", text);
+    }
+    (option, text)
 }
 
 /// The option that a question has its condition from, and the condition.

@@ -1,6 +1,6 @@
 -- Conditions and the texts that say them. (This project's own choice, after the conditions of litmus tests: `!` binds
 -- most, then `&`, then `|`.)
-use Rattle.std.specs.Prelude.{◌≡◌, ℕ, suc, ◌==◌, ◌||◌, not, Bool, true, List, [], ◌∷◌, ◌++◌, take, drop}
+use Rattle.std.specs.Prelude.{◌≡◌, ℕ, suc, ◌+◌, max, ◌==◌, ◌||◌, not, Bool, true, List, [], ◌∷◌, ◌++◌, take, drop}
 use Rattle.std.specs.Prelude.{Option, Some, None}
 use Rattle.symbols.specs.Tables.{Table}
 use Rattle.outcome_queries.specs.declared.term.Term.{Term}
@@ -15,6 +15,13 @@ terms_in (Holds term) = term ∷ []
 terms_in (Not' p inner) = terms_in inner
 terms_in (Grouped' p inner) = terms_in inner
 terms_in (Joined' joint p first q others) = terms_in first ++ terms_in others
+
+-- How many of its `!` and parentheses stand in one another.
+abbrev pub levels_in : Condition → ℕ
+levels_in (Holds term) = 0
+levels_in (Not' p inner) = levels_in inner + 1
+levels_in (Grouped' p inner) = levels_in inner + 1
+levels_in (Joined' joint p first q others) = max (levels_in first) (levels_in others)
 
 -- A text is cut at its first `|`, as it stands outside of parentheses and quotation marks; else at its first `&`.
 abbrev pub IsJoint : List ℕ → Joint → ℕ → Type 0

@@ -5,7 +5,7 @@ ghost use Rattle.std.specs.Prelude.{◌≡◌, ◌+◌, ◌≤◌, ◌<◌, ◌^
 ghost use Rattle.std.specs.List.{prefix_len};
 ghost use Rattle.std.specs.Char.{is_ascii_whitespace};
 ghost use Rattle.symbols.specs.Tables.{table_of};
-ghost use Rattle.outcome_queries.specs.Conditions.{Says, IsJoint, StandsAlone, terms_in};
+ghost use Rattle.outcome_queries.specs.Conditions.{Says, IsJoint, StandsAlone, terms_in, levels_in};
 ghost use Rattle.outcome_queries.specs.Terms.{SaysTerm};
 ghost use Rattle.outcome_queries.specs.declared.refused.ConditionRefused.TheVariants.{Memory, Text};
 ghost use Rattle.outcome_queries.specs.ConditionRefusals.{IsRefusal, IsInnerRefusal, IsLeafRefusal, at_start};
@@ -45,6 +45,7 @@ pub fn read_condition<'a>(
 ) -> Result<Condition<'a>, ConditionRefused>
     ensures read { IfOk result (λ condition. Says (table_of names.now) condition text.now) }
     ensures few { IfOk result (λ condition. length (terms_in condition) ≤ 32) }
+    ensures shallow { IfOk result (λ condition. levels_in condition ≤ 16) }
     ensures refused { IfErr result (IsRefusal (table_of names.now) text.now at_start) }
 {
     let start = Place {
@@ -70,6 +71,7 @@ fn read_part<'a>(
     ensures read { IfOk result (λ read. Says (table_of names.now) read.condition text.now) }
     ensures count { IfOk result (λ read. read.count ≡ place.before + length (terms_in read.condition)) }
     ensures few { IfOk result (λ read. read.count ≤ 32) }
+    ensures shallow { IfOk result (λ read. levels_in read.condition ≤ place.levels) }
     ensures refused { IfErr result (IsRefusal (table_of names.now) text.now place) }
 {
     let Some((joint, cut)) = joint_of(text) else {
@@ -119,6 +121,7 @@ fn read_alone<'a>(
     ensures read { IfOk result (λ read. Says (table_of names.now) read.condition text.now) }
     ensures count { IfOk result (λ read. read.count ≡ place.before + length (terms_in read.condition)) }
     ensures few { IfOk result (λ read. read.count ≤ 32) }
+    ensures shallow { IfOk result (λ read. levels_in read.condition ≤ place.levels) }
     ensures refused { IfErr result (IsRefusal (table_of names.now) text.now place) }
 {
     let column = place.column + blanks_before(text);
@@ -149,6 +152,7 @@ fn read_inner<'a>(
     ensures read { IfOk result (λ read. Says (table_of names.now) read.condition text.now) }
     ensures count { IfOk result (λ read. read.count ≡ place.before + length (terms_in read.condition)) }
     ensures few { IfOk result (λ read. read.count ≤ 32) }
+    ensures shallow { IfOk result (λ read. levels_in read.condition + 1 ≤ place.levels) }
     ensures refused { IfErr result (IsInnerRefusal (table_of names.now) text.now place column) }
 {
     if place.levels == 0 {

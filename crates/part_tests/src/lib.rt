@@ -35,6 +35,8 @@ mod outcome_queries_tests;
 #[cfg(test)]
 mod placing;
 #[cfg(test)]
+mod program_ways_tests;
+#[cfg(test)]
 mod queue_commands_tests;
 #[cfg(test)]
 mod rename_map_tests;

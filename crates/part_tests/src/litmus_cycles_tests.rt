@@ -231,7 +231,7 @@ fn test_of(row: &Row, alloc: Global) -> Result<LitmusTest, AllocError> {
 /// What is told of a row; nothing where memory is wanting.
 fn told(row: &Row, alloc: Global) -> Option<Vec<u8>> {
     let test = test_of(row, alloc).ok()?;
-    let explanation = explain_forbidden(&test, alloc).ok()?;
+    let explanation = explain_forbidden(&test, &(), alloc).ok()?;
     let mut text = Vec::new(alloc);
     write_explanation(&test, &explanation, &mut text).ok()?;
     Some(text)
@@ -240,9 +240,9 @@ fn told(row: &Row, alloc: Global) -> Option<Vec<u8>> {
 /// The picture of a row; nothing where memory is wanting.
 fn drawn(row: &Row, alloc: Global) -> Option<Vec<u8>> {
     let test = test_of(row, alloc).ok()?;
-    let explanation = explain_forbidden(&test, alloc).ok()?;
+    let explanation = explain_forbidden(&test, &(), alloc).ok()?;
     let mut text = Vec::new(alloc);
-    draw_explanation(&test, &explanation, &mut text, alloc).ok()?;
+    draw_explanation(&test, &test, &explanation, &mut text, alloc).ok()?;
     Some(text)
 }
 

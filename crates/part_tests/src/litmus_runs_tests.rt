@@ -1,6 +1,6 @@
 //! The ways of a litmus test's harts, counted by hand.
 
-use litmus_runs::{AllRuns, all_runs};
+use litmus_runs::{AllRuns, all_runs, gathered_runs};
 use litmus_tests::{
     Condition, INT, LitmusStep, LitmusTest, Location, Quantifier, RegisterStart, Thread, Value,
 };
@@ -31,6 +31,14 @@ static POLLS: [LitmusStep; 2] = [
     },
 ];
 
+/// Reads a word behind x, which is no location.
+static READS_BEHIND: [LitmusStep; 1] = [LitmusStep::Straight(Instr::Load {
+    op: LoadOp::Lw,
+    rd: 5,
+    rs1: 20,
+    offset: 4,
+})];
+
 fn thread_of(steps: &[LitmusStep], alloc: Global) -> Result<Thread, AllocError> {
     let mut starts = Vec::new(alloc);
     starts.push(RegisterStart {
@@ -57,17 +65,17 @@ fn location_x(alloc: Global) -> Result<Location, AllocError> {
     })
 }
 
-/// A hart that writes x, and one that polls it.
-fn polling(alloc: Global) -> Result<LitmusTest, AllocError> {
+/// A hart that writes x, and one with these steps.
+fn beside_a_write(steps: &[LitmusStep], alloc: Global) -> Result<LitmusTest, AllocError> {
     let mut words = Vec::new(alloc);
     words.push(Value::Number(0))?;
     let mut locations = Vec::new(alloc);
     locations.push(location_x(alloc)?)?;
     let mut threads = Vec::new(alloc);
     threads.push(thread_of(&WRITES, alloc)?)?;
-    threads.push(thread_of(&POLLS, alloc)?)?;
+    threads.push(thread_of(steps, alloc)?)?;
     Ok(LitmusTest {
-        name: b"polling".to_vec(alloc)?,
+        name: b"beside a write".to_vec(alloc)?,
         words,
         locations,
         threads,
@@ -90,7 +98,7 @@ fn is_found(runs: &AllRuns) -> bool {
 }
 
 fn polls_once(alloc: Global) -> Option<bool> {
-    let test = polling(alloc).ok()?;
+    let test = beside_a_write(&POLLS, alloc).ok()?;
     let runs = all_runs(&test, alloc).ok()?;
     Some(runs.is_whole && is_found(&runs))
 }
@@ -98,4 +106,16 @@ fn polls_once(alloc: Global) -> Option<bool> {
 #[test]
 fn a_hart_that_polls_has_no_needless_turn(rt: HostRuntime) {
     assert!(rt; polls_once(rt.alloc()) == Some(true));
+}
+
+fn is_closed(steps: &[LitmusStep], alloc: Global) -> Option<bool> {
+    let test = beside_a_write(steps, alloc).ok()?;
+    let gathered = gathered_runs(&test, alloc).ok()?;
+    Some(gathered.runs.is_whole && gathered.is_closed)
+}
+
+#[test]
+fn what_is_polled_is_closed_and_a_read_behind_the_locations_is_not_whole(rt: HostRuntime) {
+    assert!(rt; is_closed(&POLLS, rt.alloc()) == Some(true));
+    assert!(rt; is_closed(&READS_BEHIND, rt.alloc()) == Some(false));
 }

@@ -1,8 +1,10 @@
 -- What is refused of a search for outcomes is refused of the command, and so is what it found.
 use Rattle.std.specs.Prelude.{◌≡◌, ◌⊎◌, ℕ, ◌+◌, ◌<◌, Bool, Option, Some, None, List, ◌++◌, length, take, get_or}
-use Rattle.std.specs.Prelude.{[], false}
+use Rattle.std.specs.Prelude.{[], false, is_some, if◌then◌else◌}
+use Rattle.std.specs.Borrow.{Bor}
 use Rattle.std.specs.Io.KnownBytes.{Appends}
 use Rattle.std.proofs.Common.{inl, inr, sym, ap, subst, refl, ◌∙◌}
+use Rattle.std.proofs.lemmas.Bool.{true≢false}
 use Rattle.std.proofs.{lemmas.List.take_more, lemmas.List.flat_map_more}
 use Rattle.text_fields.proofs.Appending.{appends_more}
 use Rattle.stress_runs.specs.Kept.{order_line, order_text}
@@ -21,8 +23,10 @@ use Rattle.story_text.specs.Text.{Plan}
 use Rattle.outcome_queries.specs.{declared.term.Term.Term, Harts.IsHartThere}
 use Rattle.std.specs.List.{All}
 use Rattle.plain_commands.specs.Questions.{IsQuestionOf, terms_asked}
-use Rattle.plain_commands.specs.WrittenOrders.{HasPutOrder, line_wanted, order_wanted, wants_order}
-use Rattle.plain_commands.specs.Outcomes.{HasPutText, HasTold, HasToldFound, IsAsked, OutcomesComeTo, found_text}
+use Rattle.plain_commands.specs.WrittenOrders.{line_wanted, order_wanted, wants_order}
+use Rattle.sim_inputs.specs.Files.{written_of_outcomes, written_order}
+use Rattle.plain_commands.specs.Outcomes.{HasPutText, HasPutWanted, HasTold, HasToldFound, IsAsked, IsDrawnFor, IsWhyOf}
+use Rattle.plain_commands.specs.Outcomes.{IsWhyRefusal, OutcomesComeTo, found_text}
 use Rattle.plain_commands.specs.Outcomes.{plan_for, status_found}
 use Rattle.plain_commands.specs.Outcomes.{IsAnyRefusal, IsAsking, IsFound, IsFoundRefusal, IsWatchOf, OfFound}
 use Rattle.plain_commands.specs.Outcomes.{IsSearchRefusal, IsOutcomesRefusal}
@@ -192,6 +196,12 @@ comes_to settings image names marks command question all watch asking plan Put o
   told = rw (sym is) told;
 }
 
+-- Of two of which the first that is there is taken neither is there, where nothing is taken.
+if_none : (a b : Option (Bor (List ℕ))) → is_some (if is_some a then a else b) ≡ false
+    → (is_some a ≡ false) × (is_some b ≡ false)
+if_none None b none = (refl, none)
+if_none (Some a) b none = absurd (true≢false none)
+
 -- No order is wanted where none is written.
 pub unwanted_order : (command : OutcomesCommand) (watch : Watch) (question : Option Question) (found : Found)
     → wants_order command ≡ false → order_wanted command watch question found ≡ None
@@ -200,19 +210,53 @@ unwanted_order command watch question found unwanted = rw unwanted refl
 module _ {S : Type 0} (written : S → Option (List ℕ)) (has_failed : S → Bool) (before after : S) (settings : Settings)
     (image : ProgramImage) (command : OutcomesCommand) (plan : Plan) (all : List Asked) (watch : Watch)
     (question : Option Question) (found : Found) where
-  -- It has told what was found, and put its order.
-  pub told_so : (order line : Option (List ℕ)) (old new : Option (List ℕ)) (status : ℕ)
+  -- It has told what was found, and put the picture or its order.
+  pub told_so : (order line picture : Option (List ℕ)) (why : List ℕ) (old new : Option (List ℕ)) (status : ℕ)
       → order ≡ order_wanted command watch question found → line ≡ line_wanted command all watch question found
-      → HasPutOrder written has_failed before after settings image command plan order line
-      → Appends old new (found_text command all watch question found) → status ≡ status_found watch question found
+      → IsDrawnFor command picture → IsWhyOf command why
+      → HasPutWanted written has_failed before after settings image command plan picture order line
+      → Appends old new (found_text command all watch question found ++ why)
+      → status ≡ status_found watch question found
       → HasTold settings image command plan all watch question found (HasPutText written has_failed before after) old new
       status
-  told_so order line old new status wanted closed put printed is =
+  told_so order line None why old new status wanted closed drawn is_why put printed is =
       let text = text_put written has_failed before after settings image command plan order line put in
       record {
         text = text.0;
+        why = why;
+        is_why = is_why;
         printed = printed;
         status = is;
-        is_text = rw (sym wanted, sym closed) text.1;
+        is_text = λ undrawn. rw (sym wanted, sym closed) text.1;
         put = text.2;
       }
+  told_so order line (Some picture) why old new status wanted closed drawn is_why put printed is =
+      record {
+        text = Some picture;
+        why = why;
+        is_why = is_why;
+        printed = printed;
+        status = is;
+        is_text = λ undrawn. absurd (let none : Some picture ≡ None = drawn undrawn in cc);
+        put = put;
+      }
+
+  -- What is refused of why, and as something is put into the file, is refused of what was found.
+  pub why_refused : (why : Refused) → IsWhyRefusal command why
+      → IsFoundRefusal settings image command watch question found why
+  why_refused reason.NothingToDraw is = is
+  why_refused reason.Memory is = tt
+  why_refused _ is = absurd is
+
+-- A file that no command names is left as it is.
+unnamed : (command : OutcomesCommand) → is_some (written_of_outcomes command) ≡ false
+    → (is_some command.svg ≡ false) × (wants_order command ≡ false)
+unnamed command none = if_none command.svg (written_order command) none
+
+pub stays : {S : Type 0} (before after : S) (command : OutcomesCommand) (watch : Watch) (question : Option Question)
+    (found : Found) (picture order : Option (List ℕ)) → IsDrawnFor command picture
+    → order ≡ order_wanted command watch question found → (picture ≡ None → order ≡ None → after ≡ before)
+    → is_some (written_of_outcomes command) ≡ false → after ≡ before
+stays before after command watch question found picture order drawn wanted kept none =
+    let both = unnamed command none in
+    kept (drawn both.0) (wanted ∙ unwanted_order command watch question found both.1)

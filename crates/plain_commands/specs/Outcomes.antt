@@ -32,8 +32,8 @@ use Rattle.command_parts.specs.{declared.refused.Refused.Refused}
 use Rattle.command_parts.specs.declared.refused.Refused.TheVariants as reasons
 use Rattle.plain_commands.specs.Questions.{IsQuestionOf, IsConditionRefused, settles, status_of_answer, status_of_extent}
 use Rattle.plain_commands.specs.Questions.{terms_asked}
-use Rattle.plain_commands.specs.WrittenOrders.{IsTextOf, IsTextRefusal, is_answer_wanted, line_wanted, order_wanted}
-use Rattle.plain_commands.specs.WrittenOrders.{stuck_told}
+use Rattle.plain_commands.specs.WrittenOrders.{HasPutOrder, IsTextOf, IsTextRefusal, is_answer_wanted, line_wanted}
+use Rattle.plain_commands.specs.WrittenOrders.{order_wanted, stuck_told}
 use Rattle.std.specs.{Borrow.Bor, List.All}
 
 -- The list of a command asks for these, where the program has these names.
@@ -116,14 +116,33 @@ abbrev pub found_text : OutcomesCommand → List Asked → Watch → Option Ques
 found_text command all watch question found = outcomes_text (registers_asked all) (memory_asked all) found
     (is_some (stuck_told found)) command.states (question_text watch question found)
 
--- It is printed, and of the same an order is written, where one is wanted and there is one. `Put` says what was written.
+-- Why a condition holds of none is told in lines, of which nothing is said but that there are none where it isn't
+-- asked; and a picture is drawn of that where one is wanted alone.
+abbrev pub IsWhyOf : OutcomesCommand → List ℕ → Type 0
+IsWhyOf command why = command.why ≡ false → why ≡ []
+
+abbrev pub IsDrawnFor : OutcomesCommand → Option (List ℕ) → Type 0
+IsDrawnFor command picture = is_some command.svg ≡ false → picture ≡ None
+
+-- What is put into the file: the picture, where there is one, else the order.
+abbrev pub HasPutWanted : {S : Type 0} → (S → Option (List ℕ)) → (S → Bool) → S → S → Settings → ProgramImage
+    → OutcomesCommand → Plan → Option (List ℕ) → Option (List ℕ) → Option (List ℕ) → Type 0
+HasPutWanted written has_failed old new settings image command plan None order line =
+    HasPutOrder written has_failed old new settings image command plan order line
+HasPutWanted written has_failed old new settings image command plan (Some picture) order line =
+    HasPut written has_failed old new picture
+
+-- It is printed, behind it why, where that is asked; and of the same an order is written, where one is wanted and there
+-- is one, and no picture of why has its file. `Put` says what was written.
 pub record HasTold (settings : Settings) (image : ProgramImage) (command : OutcomesCommand) (plan : Plan)
     (all : List Asked) (watch : Watch) (question : Option Question) (found : Found) (Put : Option (List ℕ) → Type 0)
     (old new : Option (List ℕ)) (exit_status : ℕ) : Type 0 where
   pub text : Option (List ℕ)
-  pub printed : Appends old new (found_text command all watch question found)
+  pub why : List ℕ
+  pub is_why : IsWhyOf command why
+  pub printed : Appends old new (found_text command all watch question found ++ why)
   pub status : exit_status ≡ status_found watch question found
-  pub is_text : IsTextIf command (setup_of image settings.config) settings.limit plan
+  pub is_text : is_some command.svg ≡ false → IsTextIf command (setup_of image settings.config) settings.limit plan
       (order_wanted command watch question found) (line_wanted command all watch question found) text
   pub put : Put text
 
@@ -230,13 +249,20 @@ IsSearchRefusal image harts watch (reasons.NoWord bytes) =
 IsSearchRefusal image harts watch reasons.Memory = Unit {0}
 IsSearchRefusal image harts watch _ = ⊥
 
--- What is refused of what was found, or of its order as that is put into a file.
+-- What is refused of why: a picture is wanted, and there is nothing to draw.
+abbrev pub IsWhyRefusal : OutcomesCommand → Refused → Type 0
+IsWhyRefusal command reasons.NothingToDraw = is_some command.svg ≡ true
+IsWhyRefusal command reasons.Memory = Unit {0}
+IsWhyRefusal command _ = ⊥
+
+-- What is refused of what was found, of why, or of its order as that is put into a file.
 abbrev pub IsFoundRefusal : Settings → ProgramImage → OutcomesCommand → Watch → Option Question → Found → Refused → Type 0
 IsFoundRefusal settings image command watch question found (reasons.NoOutcome number) =
     LacksOutcome command number found
 IsFoundRefusal settings image command watch question found reasons.NotStuck = IsNotStuck command found
 IsFoundRefusal settings image command watch question found reasons.NoAnswer =
     LacksAnswer command watch question found
+IsFoundRefusal settings image command watch question found reasons.NothingToDraw = is_some command.svg ≡ true
 IsFoundRefusal settings image command watch question found reason = IsTextRefusal settings image command reason
 
 -- Of a search: it has found nothing, or what it found is refused.

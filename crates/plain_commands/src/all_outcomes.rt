@@ -1,6 +1,6 @@
 //! The command `outcomes`: every end that a program has on the plain machine.
 
-ghost use Rattle.std.specs.Prelude.{◌≡◌, ◌++◌, ℕ, List, IfOk, IfErr, OnOk, true, false, is_some, option_map};
+ghost use Rattle.std.specs.Prelude.{◌≡◌, ◌++◌, ℕ, List, IfOk, IfErr, OnOk, None, true, false, is_some, option_map};
 ghost use Rattle.std.specs.Io.KnownBytes.{Appends};
 ghost use Rattle.elf_image.specs.Image.{ProgramImage};
 ghost use Rattle.address_labels.specs.Labels.{marks_of};
@@ -13,16 +13,19 @@ ghost use Rattle.command_parts.specs.declared.refused.Refused.TheVariants.{Memor
 ghost use Rattle.plain_commands.specs.Outcomes.{IsOutcomesRefusal, OutcomesComeTo, IsSearchRefusal, IsFoundRefusal};
 ghost use Rattle.plain_commands.specs.Outcomes.{HasPutText, HasTold, HasToldFound, IsAnyRefusal, IsWant};
 ghost use Rattle.plain_commands.specs.Outcomes.{found_text, plan_for, question_text, status_found};
-ghost use Rattle.plain_commands.specs.WrittenOrders.{is_answer_wanted, order_wanted, stuck_told, wants_order};
+ghost use Rattle.plain_commands.specs.Outcomes.{HasPutWanted, IsDrawnFor, IsWhyOf, IsWhyRefusal};
+ghost use Rattle.plain_commands.specs.WrittenOrders.{IsTextRefusal, is_answer_wanted, order_wanted, stuck_told};
+ghost use Rattle.sim_inputs.specs.Files.{written_of_outcomes};
 
 use crate::asking::{question_of, see_harts, terms_asked, watched_for};
+use crate::outcome_why::{Told, outcome_why};
 use crate::searching::find_shown;
 use crate::settling::{FirstSettling, status_of_answer, status_of_extent};
 use crate::written_orders::{is_answer_wanted, order_wanted, put_order, stuck_order};
 use crate::written_stories::line_wanted;
 use actors::Gate;
 use address_labels::Labels;
-use command_parts::{Context, Refused};
+use command_parts::{Context, Refused, put_text};
 use elf_image::Image;
 use outcome_queries::{Question, WatchList, columns_of, watch_of};
 use outcome_text::{answer_of, write_answer, write_outcomes};
@@ -36,14 +39,15 @@ use symbols::Symbols;
 use watched_outcomes::Watch;
 
 /// Writes a line for each outcome of an image that is found, for as many harts as the settings say, how many there
-/// are, whether these are all, whether each state can go on to an end, and the answer to the command's question. An
-/// order that is wanted goes into the context's files first, as it is, as its script, as its story or as a picture of
-/// that.
+/// are, whether these are all, whether each state can go on to an end, the answer to the command's question, and why its
+/// condition holds of none, where that is asked. The picture of that goes into the context's files first, or an order
+/// that is wanted, as it is, as its script, as its story or as a picture of that.
 ///
 /// Answers the exit status: of a question 0 where it is so, 1 where it isn't, and 3 where what was found doesn't tell;
 /// without a question 0 where these are all outcomes, else 3. Refused are, in this order, a condition or a list that is
 /// misspelled, more than can be watched, a hart that isn't there (of the condition first), a word that isn't, an outcome
-/// and a stuck state that aren't there, and what `perform_schedule` refuses; then nothing is printed. `NoAnswer` is
+/// and a stuck state that aren't there, a picture of which there is nothing to draw, and what `perform_schedule`
+/// refuses; then nothing is printed. `NoAnswer` is
 /// answered where the order of what answers the question is wanted and nothing does; then all else is printed.
 /// `Output` is answered where `out` or `files` failed. The gate is shown how far the search is.
 #[inline(never)]
@@ -61,7 +65,7 @@ pub fn perform_outcomes<R, G: Gate, P, S: EndFiles, W: Write>(
     ensures ended { IfOk result (OutcomesComeTo settings.now image.now (table_of names.now) (marks_of labels.now)
         command.now (HasPutText S.written S.has_failed context.old.files context.new.files)
         (W.contents context.old.out) (W.contents context.new.out)) }
-    ensures unwanted { wants_order command.now ≡ false → context.new.files ≡ context.old.files }
+    ensures unwanted { is_some (written_of_outcomes command.now) ≡ false → context.new.files ≡ context.old.files }
     ensures unbroken { OnOk result (S.has_failed context.new.files ≡ false) }
     ensures finished { OnOk result (S.is_finished context.new.files ≡ true) }
     ensures unreported { S.has_failed context.new.files ≡ true
@@ -124,7 +128,7 @@ fn search<R, G: Gate, P, S: EndFiles, W: Write>(
     ensures told { IfOk result (HasToldFound settings.now image.now command.now (plan_of form.now) list.now.items
         watch.now question.now (HasPutText S.written S.has_failed context.old.files context.new.files)
         (W.contents context.old.out) (W.contents context.new.out)) }
-    ensures unwanted { wants_order command.now ≡ false → context.new.files ≡ context.old.files }
+    ensures unwanted { is_some (written_of_outcomes command.now) ≡ false → context.new.files ≡ context.old.files }
     ensures unbroken { OnOk result (S.has_failed context.new.files ≡ false) }
     ensures finished { OnOk result (S.is_finished context.new.files ≡ true) }
     ensures unreported { S.has_failed context.new.files ≡ true
@@ -146,7 +150,7 @@ fn search<R, G: Gate, P, S: EndFiles, W: Write>(
 }
 
 /// Puts the order that is wanted into the file, and prints what was found.
-fn tell<R, G, P, S: EndFiles, W: Write>(
+fn tell<R, G: Gate, P, S: EndFiles, W: Write>(
     context: &mut Context<'_, R, G, P, S, W>,
     image: &Image,
     settings: &Settings,
@@ -165,7 +169,7 @@ fn tell<R, G, P, S: EndFiles, W: Write>(
     ensures told { IfOk result (HasTold settings.now image.now command.now (plan_of form.now) list.now.items watch.now
         question.now outcomes.now (HasPutText S.written S.has_failed context.old.files context.new.files)
         (W.contents context.old.out) (W.contents context.new.out)) }
-    ensures unwanted { wants_order command.now ≡ false → context.new.files ≡ context.old.files }
+    ensures unwanted { is_some (written_of_outcomes command.now) ≡ false → context.new.files ≡ context.old.files }
     ensures unbroken { OnOk result (S.has_failed context.new.files ≡ false) }
     ensures finished { OnOk result (S.is_finished context.new.files ≡ true) }
     ensures unreported { S.has_failed context.new.files ≡ true
@@ -184,10 +188,25 @@ fn tell<R, G, P, S: EndFiles, W: Write>(
         Ok(line) => line,
         Err(refused) => return Err(refused),
     };
-    match put_order(
+    let why = match why_told(
+        image,
+        settings,
+        question,
+        outcomes,
+        watch,
+        command,
+        form,
+        context.gate,
+        alloc,
+    ) {
+        Ok(why) => why,
+        Err(refused) => return Err(refused),
+    };
+    match put_file(
         image,
         settings,
         command,
+        &why.picture,
         &order,
         &line,
         form,
@@ -204,6 +223,7 @@ fn tell<R, G, P, S: EndFiles, W: Write>(
         is_stuck,
         command,
         question,
+        why.text.as_slice(),
         &mut context.out,
         alloc,
     ) {
@@ -216,7 +236,63 @@ fn tell<R, G, P, S: EndFiles, W: Write>(
     Ok(status)
 }
 
-/// Prints what was found, with the answer, and flushes it: a refusal may stand behind. Answers the exit status.
+/// What is said of why the condition holds of none of these outcomes, where that is asked.
+fn why_told<G: Gate>(
+    image: &Image,
+    settings: &Settings,
+    question: &Option<Question<'_>>,
+    outcomes: &Outcomes,
+    watch: &Watch,
+    command: &OutcomesCommand<'_>,
+    form: &StoryForm<'_>,
+    gate: &G,
+    alloc: Global,
+) -> Result<Told, Refused>
+    ensures why { IfOk result (λ told. IsWhyOf command.now told.text.items) }
+    ensures picture { IfOk result (λ told. IsDrawnFor command.now (option_map (λ it. it.items) told.picture)) }
+    ensures refused { IfErr result (IsWhyRefusal command.now) }
+{
+    let (names, labels) = (form.names, &form.labels);
+    outcome_why(
+        image, settings, names, labels, question, outcomes, watch, command, gate, alloc,
+    )
+}
+
+/// Puts the picture of why into the file, where there is one, else the order that is wanted.
+fn put_file<S: EndFiles>(
+    image: &Image,
+    settings: &Settings,
+    command: &OutcomesCommand<'_>,
+    picture: &Option<Vec<u8>>,
+    order: &Option<Vec<u8>>,
+    line: &Option<Vec<u8>>,
+    form: &StoryForm<'_>,
+    file: &mut S,
+    alloc: Global,
+) -> Result<(), Refused>
+    requires works { S.has_failed file.old ≡ false }
+    requires finished { S.is_finished file.old ≡ true }
+    requires harts { form.now.harts ≡ settings.now.config.harts }
+    ensures refused { IfErr result (IsTextRefusal settings.now image.now command.now) }
+    ensures put { OnOk result (HasPutWanted S.written S.has_failed file.old file.new settings.now image.now
+        command.now (plan_of form.now) (option_map (λ it. it.items) picture.now)
+        (option_map (λ it. it.items) order.now) (option_map (λ it. it.items) line.now)) }
+    ensures unwanted { option_map (λ it. it.items) picture.now ≡ None
+        → option_map (λ it. it.items) order.now ≡ None → file.new ≡ file.old }
+    ensures unbroken { OnOk result (S.has_failed file.new ≡ false) }
+    ensures finished { OnOk result (S.is_finished file.new ≡ true) }
+{
+    match picture {
+        Some(picture) => match put_text(picture.as_slice(), file) {
+            Ok(_status) => Ok(()),
+            Err(refused) => Err(refused),
+        },
+        None => put_order(image, settings, command, order, line, form, file, alloc),
+    }
+}
+
+/// Prints what was found, with the answer, behind it why, and flushes it: a refusal may stand behind. Answers the exit
+/// status.
 fn print_found<W: Write>(
     outcomes: &Outcomes,
     list: &WatchList<'_>,
@@ -224,12 +300,13 @@ fn print_found<W: Write>(
     is_stuck: bool,
     command: &OutcomesCommand<'_>,
     question: &Option<Question<'_>>,
+    why: &[u8],
     out: &mut W,
     alloc: Global,
 ) -> Result<u8, Refused>
     requires stuck { is_stuck ≡ is_some (stuck_told outcomes.now) }
     ensures printed { OnOk result (Appends (W.contents out.old) (W.contents out.new)
-        (found_text command.now list.now.items watch.now question.now outcomes.now)) }
+        (found_text command.now list.now.items watch.now question.now outcomes.now ++ why.now)) }
     ensures status { IfOk result (λ status. status ≡ status_found watch.now question.now outcomes.now) }
     ensures refused { IfErr result IsWant }
 {
@@ -247,6 +324,10 @@ fn print_found<W: Write>(
         text.as_slice(),
         out,
     ) {
+        Ok(()) => {}
+        Err(_) => return Err(Refused::Output),
+    }
+    match out.write_all(why) {
         Ok(()) => {}
         Err(_) => return Err(Refused::Output),
     }

@@ -118,7 +118,7 @@ pub fn perform_test<G: Gate, S: EndFiles, W: Write>(
     ) {
         Ok(outcomes) => match outcomes.extent() {
             Extent::Whole => write_and_print(
-                test, &image, settings, &outcomes, command, file, out, alloc,
+                test, &image, settings, &outcomes, command, gate, file, out, alloc,
             ),
             Extent::Beyond | Extent::First => match write_incomplete(command.states, out) {
                 Ok(()) => Ok(3),
@@ -131,12 +131,13 @@ pub fn perform_test<G: Gate, S: EndFiles, W: Write>(
 }
 
 /// Writes the order of a state, where that is wanted, and does what `draw_and_print` does.
-fn write_and_print<S: EndFiles, W: Write>(
+fn write_and_print<G: Gate, S: EndFiles, W: Write>(
     test: &LitmusTest,
     image: &Image,
     settings: &Settings,
     outcomes: &Outcomes,
     command: &LitmusCommand<'_>,
+    gate: &G,
     file: &mut S,
     out: &mut W,
     alloc: Global,
@@ -163,19 +164,22 @@ fn write_and_print<S: EndFiles, W: Write>(
         Ok(()) => {}
         Err(refused) => return Err(refused),
     }
-    match draw_and_print(test, image, settings, outcomes, command, file, out, alloc) {
+    match draw_and_print(
+        test, image, settings, outcomes, command, gate, file, out, alloc,
+    ) {
         Ok(status) => Ok(status),
         Err(refused) => Err(refused),
     }
 }
 
 /// Draws why the condition holds of no state, or how it holds of one, where that is wanted, and prints what was found.
-fn draw_and_print<S: EndFiles, W: Write>(
+fn draw_and_print<G: Gate, S: EndFiles, W: Write>(
     test: &LitmusTest,
     image: &Image,
     settings: &Settings,
     outcomes: &Outcomes,
     command: &LitmusCommand<'_>,
+    gate: &G,
     file: &mut S,
     out: &mut W,
     alloc: Global,
@@ -198,7 +202,7 @@ fn draw_and_print<S: EndFiles, W: Write>(
     let can_come = holds_of_any(test, outcomes);
     let is_stuck = can_be_stuck(outcomes, alloc)?;
     let why = told_why(
-        test, image, settings, outcomes, can_come, command, file, alloc,
+        test, image, settings, outcomes, can_come, command, gate, file, alloc,
     )?;
     print(test, outcomes, is_stuck, why.as_slice(), out)
 }

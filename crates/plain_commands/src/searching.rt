@@ -7,6 +7,7 @@ ghost use Rattle.watched_outcomes.specs.Watching.{AreThere};
 
 use actors::Gate;
 use elf_image::Image;
+use litmus_cycles::ChoiceOnlooker;
 use outcomes::{Onlooker, Outcomes, OutcomesRefused, Until, find_outcomes};
 use std::alloc::Global;
 use watched_outcomes::Watch;
@@ -20,6 +21,18 @@ struct Shown<'a, G: Gate> {
 impl<G: Gate> Onlooker for Shown<'_, G> {
     fn see(&self, states: u32, swept: u32) {
         self.gate.at_states(states, swept);
+    }
+}
+
+/// Shows a gate how many choices were tried in a search for executions.
+#[derive(Drop)]
+pub(crate) struct Tried<'a, G: Gate> {
+    pub(crate) gate: &'a G,
+}
+
+impl<G: Gate> ChoiceOnlooker for Tried<'_, G> {
+    fn see(&self, choices: u32) {
+        self.gate.at_choices(choices);
     }
 }
 

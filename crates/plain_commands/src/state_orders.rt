@@ -69,7 +69,7 @@ pub(crate) fn put_state_order<S: EndFiles>(
 fn state_asked(command: &LitmusCommand<'_>) -> Option<u32>
     ensures { result ≡ state_asked command.now }
 {
-    if command.order_asked().written().is_none() {
+    if command.order_asked().written_order().is_none() {
         return None;
     }
     command.outcome

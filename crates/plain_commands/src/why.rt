@@ -6,7 +6,9 @@ ghost use Rattle.litmus_tests.specs.WellFormed.{IsWellFormed};
 ghost use Rattle.command_parts.specs.declared.refused.Refused.TheVariants.{Memory, Output};
 ghost use Rattle.plain_commands.specs.Litmus.{IsPictureRefusal, IsStatesRefusal, IsWhy};
 
+use crate::searching::Tried;
 use crate::told_states::{draw_shown, tell_shown};
+use actors::Gate;
 use command_parts::{Refused, put_text};
 use elf_image::Image;
 use explained_cycles::{draw_explanation, write_explanation};
@@ -18,14 +20,15 @@ use std::alloc::{AllocError, Global};
 use stress_runs::EndFiles;
 
 /// What is said of why the condition holds of no state, or how it comes to hold of one, where that is wanted; and
-/// where a picture is, that drawn into the file.
-pub(crate) fn told_why<S: EndFiles>(
+/// where a picture is, that drawn into the file. The gate is shown how many choices are tried.
+pub(crate) fn told_why<G: Gate, S: EndFiles>(
     test: &LitmusTest,
     image: &Image,
     settings: &Settings,
     outcomes: &Outcomes,
     can_come: bool,
     command: &LitmusCommand<'_>,
+    gate: &G,
     file: &mut S,
     alloc: Global,
 ) -> Result<Vec<u8>, Refused>
@@ -39,7 +42,7 @@ pub(crate) fn told_why<S: EndFiles>(
     ensures unbroken { OnOk result (S.has_failed file.new ≡ false) }
     ensures finished { OnOk result (S.is_finished file.new ≡ true) }
 {
-    let explanation = explanation_of(test, can_come, command, alloc)?;
+    let explanation = explanation_of(test, can_come, command, gate, alloc)?;
     let why = why_text(
         test,
         image,
@@ -65,10 +68,11 @@ pub(crate) fn told_why<S: EndFiles>(
 }
 
 /// The explanation, where one is wanted and the condition holds of no state.
-fn explanation_of(
+fn explanation_of<G: Gate>(
     test: &LitmusTest,
     can_come: bool,
     command: &LitmusCommand<'_>,
+    gate: &G,
     alloc: Global,
 ) -> Result<Option<Explanation>, Refused>
     requires { IsWellFormed test.now }
@@ -77,7 +81,10 @@ fn explanation_of(
     if can_come || !(command.why || command.svg.is_some()) {
         return Ok(None);
     }
-    match explain_forbidden(test, alloc) {
+    gate.begin_search();
+    let explained = explain_forbidden(test, &Tried { gate }, alloc);
+    gate.end();
+    match explained {
         Ok(explanation) => Ok(Some(explanation)),
         Err(AllocError) => Err(Refused::Memory),
     }
@@ -190,7 +197,7 @@ fn drawn(
         return Err(Refused::NothingToDraw);
     }
     let mut picture = Vec::new(alloc);
-    match draw_explanation(test, explanation, &mut picture, alloc) {
+    match draw_explanation(test, test, explanation, &mut picture, alloc) {
         Ok(()) => Ok(picture),
         Err(_) => Err(Refused::Memory),
     }

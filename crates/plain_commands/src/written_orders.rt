@@ -45,7 +45,7 @@ pub(crate) fn order_wanted(
         ≡ order_wanted command.now watch.now question.now outcomes.now) }
     ensures refused { IfErr result (IsOrderRefusal command.now outcomes.now) }
 {
-    if command.written().is_none() {
+    if command.written_order().is_none() {
         return Ok(None);
     }
     if let Some(number) = command.outcome {
@@ -158,7 +158,7 @@ pub(crate) fn stuck_order(outcomes: &Outcomes, alloc: Global) -> Result<Option<V
 pub(crate) fn is_answer_wanted(command: &OutcomesCommand<'_>) -> bool
     ensures { result ≡ is_answer_wanted command.now }
 {
-    command.written().is_some() && command.outcome.is_none() && !command.stuck
+    command.written_order().is_some() && command.outcome.is_none() && !command.stuck
 }
 
 /// Puts an order into the file, if there is one: as it is, as its script, as its story, or as a picture of that; `line`

@@ -235,6 +235,8 @@ pub fn outcomes_line(states: u32) -> Line<'static> {
         states,
         watch: None,
         question: None,
+        why: false,
+        svg: None,
         first: false,
         outcome: None,
         stuck: false,

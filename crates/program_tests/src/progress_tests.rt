@@ -197,6 +197,32 @@ fn a_search_shows_its_states_and_those_to_look_at(rt: HostRuntime) {
     assert!(rt; shows_search(false, 1500, 2, "", rt.alloc()) == Some(true));
 }
 
+/// Whether a search for executions shows this text, that is looked at so often.
+fn shows_choices(
+    is_terminal: bool,
+    step: u64,
+    looks: u32,
+    text: &str,
+    alloc: Global,
+) -> Option<bool> {
+    let clock = Ticking::new(step);
+    let screen = Screen::new(alloc).ok()?;
+    let progress = Progress::new(&clock, &screen, is_terminal);
+    progress.begin_search();
+    for look in 0..looks {
+        progress.at_choices(look.wrapping_add(1).wrapping_mul(8_192));
+    }
+    progress.end();
+    Some(screen.has(text))
+}
+
+#[test]
+fn a_search_for_executions_shows_its_choices(rt: HostRuntime) {
+    let shown = "\rsmtsim: 8192 choices, 1 s\x1b[K\rsmtsim: 16384 choices, 3 s\x1b[K\r\x1b[K";
+    assert!(rt; shows_choices(true, 1500, 2, shown, rt.alloc()) == Some(true));
+    assert!(rt; shows_choices(false, 1500, 2, "", rt.alloc()) == Some(true));
+}
+
 /// Whether this is what stands on a terminal when three runs are over, of which the first and the
 /// last have a turn and the second has 1024.
 fn shows_runs(text: &str, alloc: Global) -> Option<bool> {

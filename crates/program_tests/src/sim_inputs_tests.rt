@@ -449,7 +449,7 @@ const LINES: [(&str, Line<'_>); 21] = [
 ];
 
 /// Of other commands and options.
-const OTHER_LINES: [(&str, Line<'_>); 30] = [
+const OTHER_LINES: [(&str, Line<'_>); 31] = [
     (
         "smtsim list list.elf",
         Line {
@@ -709,6 +709,8 @@ const OTHER_LINES: [(&str, Line<'_>); 30] = [
                 states: 1_000_000,
                 watch: None,
                 question: None,
+                why: false,
+                svg: None,
                 first: false,
                 outcome: None,
                 stuck: false,
@@ -733,6 +735,8 @@ const OTHER_LINES: [(&str, Line<'_>); 30] = [
                 states: 4_294_967_295,
                 watch: Some("a0@1"),
                 question: Some(QuestionText::Exists("h0=1")),
+                why: false,
+                svg: None,
                 first: false,
                 outcome: Some(2),
                 stuck: false,
@@ -757,6 +761,8 @@ const OTHER_LINES: [(&str, Line<'_>); 30] = [
                 states: 1_000_000,
                 watch: None,
                 question: Some(QuestionText::ForAll("x=1")),
+                why: false,
+                svg: None,
                 first: true,
                 outcome: None,
                 stuck: false,
@@ -781,6 +787,8 @@ const OTHER_LINES: [(&str, Line<'_>); 30] = [
                 states: 1_000_000,
                 watch: None,
                 question: Some(QuestionText::NeverStuck),
+                why: false,
+                svg: None,
                 first: false,
                 outcome: None,
                 stuck: false,
@@ -805,6 +813,8 @@ const OTHER_LINES: [(&str, Line<'_>); 30] = [
                 states: 1_000_000,
                 watch: None,
                 question: Some(QuestionText::NeverStuck),
+                why: false,
+                svg: None,
                 first: false,
                 outcome: None,
                 stuck: false,
@@ -819,6 +829,32 @@ const OTHER_LINES: [(&str, Line<'_>); 30] = [
         },
     ),
     (
+        "smtsim outcomes a --why x=1 --svg p --lines l",
+        Line {
+            config: None,
+            harts: None,
+            hints: HintsWanted::Auto,
+            command: Command::OfProgram(ProgramCommand::Outcomes(OutcomesCommand {
+                image: "a",
+                states: 1_000_000,
+                watch: None,
+                question: Some(QuestionText::Never("x=1")),
+                why: true,
+                svg: Some("p"),
+                first: false,
+                outcome: None,
+                stuck: false,
+                witness: None,
+                script: None,
+                story: None,
+                story_svg: None,
+                theme: None,
+                all: false,
+                lines: Some("l"),
+            })),
+        },
+    ),
+    (
         "smtsim outcomes --stuck - --script s --states 1",
         Line {
             config: None,
@@ -829,6 +865,8 @@ const OTHER_LINES: [(&str, Line<'_>); 30] = [
                 states: 1,
                 watch: None,
                 question: None,
+                why: false,
+                svg: None,
                 first: false,
                 outcome: None,
                 stuck: true,
@@ -1294,7 +1332,7 @@ fn each_other_line_is_read_with_its_files_and_options(rt: HostRuntime) {
 }
 
 /// A line of each command, and its files.
-const NAMED: [(Line<'_>, Named<'_>); 14] = [
+const NAMED: [(Line<'_>, Named<'_>); 15] = [
     (
         Line {
             config: Some("c"),
@@ -1460,6 +1498,8 @@ const NAMED: [(Line<'_>, Named<'_>); 14] = [
                 states: 1,
                 watch: None,
                 question: None,
+                why: false,
+                svg: None,
                 first: false,
                 outcome: Some(1),
                 stuck: false,
@@ -1476,6 +1516,32 @@ const NAMED: [(Line<'_>, Named<'_>); 14] = [
     ),
     (
         Line {
+            config: None,
+            harts: None,
+            hints: HintsWanted::Auto,
+            command: Command::OfProgram(ProgramCommand::Outcomes(OutcomesCommand {
+                image: "a",
+                states: 1,
+                watch: None,
+                question: Some(QuestionText::Never("x=1")),
+                why: true,
+                svg: Some("p"),
+                first: false,
+                outcome: None,
+                stuck: false,
+                witness: None,
+                script: None,
+                story: None,
+                story_svg: None,
+                theme: None,
+                all: false,
+                lines: None,
+            })),
+        },
+        (None, Some("a"), None, Some("p")),
+    ),
+    (
+        Line {
             config: Some("c"),
             harts: None,
             hints: HintsWanted::Auto,
@@ -1484,6 +1550,8 @@ const NAMED: [(Line<'_>, Named<'_>); 14] = [
                 states: 1,
                 watch: None,
                 question: None,
+                why: false,
+                svg: None,
                 first: false,
                 outcome: None,
                 stuck: true,

@@ -30,7 +30,7 @@ written_text name rows =
     if bytes_eq name (codes "step") then first_of (codes "trace") rows
     else (if bytes_eq name (codes "run") then first_of (codes "trace") rows
     else (if bytes_eq name (codes "chart") then either (first_of (codes "svg") rows) (first_of (codes "kanata") rows)
-    else (if bytes_eq name (codes "outcomes") then order_text rows
+    else (if bytes_eq name (codes "outcomes") then either (first_of (codes "svg") rows) (order_text rows)
     else (if bytes_eq name (codes "litmus")
     then either (first_of (codes "image") rows) (either (first_of (codes "svg") rows) (order_text rows))
     else (if bytes_eq name (codes "migrate") then first_of (codes "OUT") rows
@@ -55,7 +55,8 @@ written_is name rows config (commands.OfProgram (program.Chart chart)) is =
 written_is name rows config (commands.OfProgram (program.Outcomes outcomes)) is =
     let last = either_text outcomes.story outcomes.story_svg _ _ is.1.story is.1.story_svg in
     let behind = either_text outcomes.script _ _ _ is.1.script (sym last) in
-    rw is.0 (either_text outcomes.witness _ _ _ is.1.witness (sym behind))
+    let order = either_text outcomes.witness _ _ _ is.1.witness (sym behind) in
+    rw is.0 (either_text outcomes.svg _ _ _ is.1.svg (sym order))
 written_is name rows config (commands.Explain explain) is = rw is.0 refl
 written_is name rows config (commands.Litmus litmus) is =
     let last = either_text litmus.story litmus.story_svg _ _ is.1.story is.1.story_svg in

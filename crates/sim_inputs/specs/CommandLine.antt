@@ -163,6 +163,16 @@ IsQuestion rows (Some (question.ForAll text)) = IsAskedAlone rows None (Some tex
 IsQuestion rows (Some (question.Never text)) = IsAskedAlone rows None None (Some text.now) false
 IsQuestion rows (Some question.NeverStuck) = IsAskedAlone rows None None None true
 
+-- So it is of outcomes, where why a condition holds of none may be asked in place of a question: that asks whether it
+-- holds of none, too.
+abbrev pub AsksWhy : List Row → Option QuestionText → Type 0
+AsksWhy rows (Some (question.Never text)) = (first_of (codes "why") rows ≡ Some text.now) × IsQuestion rows None
+AsksWhy rows other = ⊥
+
+abbrev pub IsAskedBy : List Row → Option QuestionText → Bool → Type 0
+IsAskedBy rows asked true = AsksWhy rows asked
+IsAskedBy rows asked false = (first_of (codes "why") rows ≡ None) × IsQuestion rows asked
+
 -- A run has an option of its report. Many runs have none, and a folder of theirs has a name, which is no dash; there
 -- is one at least, and one alone has no folder, and nothing of it is watched or asked.
 abbrev pub is_reported : RunCommand → Bool
@@ -319,23 +329,33 @@ are_orders_together outcomes =
     option_map_or (λ number. nat_le 1 number && not outcomes.stuck && has_one_file outcomes)
     outcomes.outcome without
 
--- What a story shows beside its rows is said of a story; each step has a row in one that is told, not drawn.
+-- What a story shows beside its rows is said of a story; each step has a row in one that is told, not drawn. Source
+-- lines stand behind the accesses of why, too.
 abbrev pub are_stories_together : OutcomesCommand → Bool
 are_stories_together outcomes = is_some outcomes.story
-    || (not outcomes.all && (is_some outcomes.story_svg || not (is_some outcomes.lines)))
+    || (not outcomes.all && ((is_some outcomes.story_svg || outcomes.why) || not (is_some outcomes.lines)))
 
--- The search ends at the first answer where a condition is asked; and a picture alone has colours.
+-- Why a condition holds of none is told of all outcomes, with no order beside it; and a picture is drawn of that alone.
+abbrev pub are_reasons_together : OutcomesCommand → Bool
+are_reasons_together outcomes =
+    if outcomes.why
+    then not outcomes.first && not (is_some outcomes.outcome) && not outcomes.stuck && has_no_file outcomes
+    else not (is_some outcomes.svg)
+
+-- The search ends at the first answer where a condition is asked; and a picture of a story alone has colours.
 abbrev pub can_be_searched : OutcomesCommand → Bool
 can_be_searched outcomes = nat_le 1 outcomes.states && are_orders_together outcomes
     && (not outcomes.first || has_condition outcomes.question)
     && are_stories_together outcomes
+    && are_reasons_together outcomes
     && can_be_themed (is_some outcomes.story_svg) (is_some outcomes.theme)
 
 pub record IsOutcomes (rows : List Row) (outcomes : OutcomesCommand) : Type 0 where
   pub image : IsFile rows (codes "IMAGE") outcomes.image
   pub states : IsNumber rows (codes "states") usual_states most_states outcomes.states
   pub watch : IsFileOption rows (codes "watch") outcomes.watch
-  pub question : IsQuestion rows outcomes.question
+  pub question : IsAskedBy rows outcomes.question outcomes.why
+  pub svg : IsFileOption rows (codes "svg") outcomes.svg
   pub first : IsFlag rows (codes "first") outcomes.first
   pub outcome : IsNumberOption rows (codes "outcome") most_states outcomes.outcome
   pub stuck : IsFlag rows (codes "stuck") outcomes.stuck

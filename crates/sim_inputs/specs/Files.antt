@@ -24,6 +24,10 @@ written_order outcomes = if is_some outcomes.witness then outcomes.witness
     else (if is_some outcomes.script then outcomes.script
     else (if is_some outcomes.story then outcomes.story else outcomes.story_svg))
 
+-- The file that `outcomes` writes: the picture of why, or what is written of an order.
+abbrev pub written_of_outcomes : OutcomesCommand → Option (Bor (List ℕ))
+written_of_outcomes outcomes = if is_some outcomes.svg then outcomes.svg else written_order outcomes
+
 -- The file that a test's image is written to, or the picture of why it can't end so, or what is written of the order of a
 -- final state.
 abbrev pub written_for_test : LitmusCommand → Option (Bor (List ℕ))
@@ -86,7 +90,8 @@ shows_names (program.List list) = list.names
 shows_names (program.Chart chart) = chart.names
 shows_names (program.Outcomes outcomes) = false
 
--- The file that it writes: the trace of a core, a chart, an order, its script or its story, or a picture of that.
+-- The file that it writes: the trace of a core, a chart, an order, its script or its story, a picture of that, or one
+-- of why.
 abbrev written_by : ProgramCommand → Option (Bor (List ℕ))
 written_by (program.Step step) = step.trace
 written_by (program.Run run) = run.trace
@@ -96,7 +101,7 @@ written_by (program.Schedule schedule) = None
 written_by (program.Script script) = None
 written_by (program.List list) = None
 written_by (program.Chart chart) = written_chart chart
-written_by (program.Outcomes outcomes) = written_order outcomes
+written_by (program.Outcomes outcomes) = written_of_outcomes outcomes
 
 -- The files of a command, beside the configuration of its line.
 abbrev pub program_files : Option (Bor (List ℕ)) → ProgramCommand → Files
@@ -134,7 +139,7 @@ files_with config (commands.Migrate migrate) = record {
 
 -- The configuration, the image or the litmus test, the file that is read beside them (the script, the
 -- trace that is read, or the order), the source lines, and the file that is written: the trace of a core or of a
--- migration, a chart, an order, its script or its story, a picture of that, or what is made of a test.
+-- migration, a chart, an order, its script or its story, a picture of that, one of why, or what is made of a test.
 abbrev pub files_of : Line → Files
 files_of line = files_with line.config line.command
 

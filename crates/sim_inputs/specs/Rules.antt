@@ -145,6 +145,9 @@ never_rule = text_option_rule (codes "never")
 abbrev pub never_stuck_rule : Rule
 never_stuck_rule = flag_rule (codes "never-stuck")
 
+abbrev pub why_none_rule : Rule
+why_none_rule = text_option_rule (codes "why")
+
 abbrev pub first_rule : Rule
 first_rule = flag_rule (codes "first")
 
@@ -248,12 +251,14 @@ explain_command = subcommand (codes "explain") (image_rule ∷ config_rule ∷ h
     ∷ explained_order_rule ∷ written_trace_rule ∷ [])
 
 -- `outcomes IMAGE`, with `--config FILE`, `--harts N`, `--states N`, `--watch LIST`, `--exists CONDITION`,
--- `--forall CONDITION`, `--never CONDITION`, `--never-stuck`, `--first`, `--outcome N`, `--stuck`, `--witness FILE`,
--- `--script FILE`, `--story FILE`, `--story-svg FILE`, `--theme THEME`, `--all` and `--lines FILE`.
+-- `--forall CONDITION`, `--never CONDITION`, `--never-stuck`, `--why CONDITION`, `--svg FILE`, `--first`, `--outcome N`,
+-- `--stuck`, `--witness FILE`, `--script FILE`, `--story FILE`, `--story-svg FILE`, `--theme THEME`, `--all` and
+-- `--lines FILE`.
 abbrev pub outcomes_command : App
 outcomes_command = subcommand (codes "outcomes") (image_rule ∷ config_rule ∷ harts_rule ∷ states_rule ∷ watch_rule
-    ∷ exists_rule ∷ forall_rule ∷ never_rule ∷ never_stuck_rule ∷ first_rule ∷ outcome_rule ∷ stuck_rule ∷ witness_rule
-    ∷ written_script_rule ∷ written_story_rule ∷ story_svg_rule ∷ theme_rule ∷ all_rule ∷ lines_rule ∷ [])
+    ∷ exists_rule ∷ forall_rule ∷ never_rule ∷ never_stuck_rule ∷ why_none_rule ∷ svg_rule ∷ first_rule ∷ outcome_rule
+    ∷ stuck_rule ∷ witness_rule ∷ written_script_rule ∷ written_story_rule ∷ story_svg_rule ∷ theme_rule ∷ all_rule
+    ∷ lines_rule ∷ [])
 
 -- `litmus TEST..`, with `--config FILE`, `--states N`, `--image FILE`, `--why`, `--svg FILE`, `--outcome N`,
 -- `--witness FILE`, `--script FILE`, `--story FILE`, `--story-svg FILE`, `--theme THEME`, `--all`, `--run N`, `--summary`

@@ -282,6 +282,12 @@ pub(crate) const NEVER_STUCK: Argument = Argument {
     help: "Tell whether each state can go on to an end",
 };
 
+pub(crate) const WHY_NONE: Argument = Argument {
+    kind: Kind::Condition,
+    name: "why",
+    help: "Tell why this holds of none",
+};
+
 pub(crate) const FIRST: Argument = Argument {
     kind: Kind::Flag,
     name: "first",
@@ -345,7 +351,7 @@ pub(crate) const WRITTEN_IMAGE: Argument = Argument {
 pub(crate) const WHY_NEVER: Argument = Argument {
     kind: Kind::Flag,
     name: "why",
-    help: "Tell why the condition holds of no state",
+    help: "Tell why the condition holds of no state, or how",
 };
 
 pub(crate) const SVG_OF_WHY: Argument = Argument {

@@ -1,6 +1,6 @@
 ghost use Rattle.std.specs.Prelude.{◌≡◌, ◌≤◌, option_map};
 ghost use Rattle.sim_inputs.specs.Files.{files_of, lines_of, program_files, shows_names};
-ghost use Rattle.sim_inputs.specs.Files.{written_chart, written_order, written_for_test};
+ghost use Rattle.sim_inputs.specs.Files.{written_chart, written_of_outcomes, written_order, written_for_test};
 ghost use Rattle.sim_inputs.specs.Files.{explained_beside, reads_words, reads_trace, is_trace};
 ghost use Rattle.sim_inputs.specs.Files.{is_standard_input, input_count, reads_input_once, writes_no_dash};
 
@@ -21,7 +21,7 @@ pub struct Files<'a> {
     /// The source lines of the image.
     pub lines: Option<&'a str>,
     /// The file that is written: the trace of a core or of a migration, a chart, an order, its script or its story, a
-    /// picture of that, or what is made of a litmus test.
+    /// picture of that, one of why, or what is made of a litmus test.
     pub written: Option<&'a str>,
 }
 
@@ -38,9 +38,19 @@ impl<'a> ChartCommand<'a> {
 }
 
 impl<'a> OutcomesCommand<'a> {
-    /// The file that an order, its script, its story or a picture of that is written to; none where nothing is
-    /// written.
+    /// The file that the picture of why is written to, or what is written of an order; none where nothing is written.
     pub fn written(&self) -> Option<&'a str>
+        ensures { result ≡ written_of_outcomes self.now }
+    {
+        if self.svg.is_some() {
+            return self.svg;
+        }
+        self.written_order()
+    }
+
+    /// The file that an order, its script, its story or a picture of that is written to; none where no order is
+    /// written.
+    pub fn written_order(&self) -> Option<&'a str>
         ensures { result ≡ written_order self.now }
     {
         if self.witness.is_some() {
@@ -68,7 +78,7 @@ impl<'a> LitmusCommand<'a> {
         if self.svg.is_some() {
             return self.svg;
         }
-        self.order_asked().written()
+        self.order_asked().written_order()
     }
 }
 

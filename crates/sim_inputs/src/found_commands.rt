@@ -4,7 +4,7 @@ ghost use Rattle.std.specs.Prelude.{◌≡◌};
 ghost use Rattle.clap.specs.Words.{found_of, rows_of};
 ghost use Rattle.sim_inputs.specs.CommandLine.{Finds, IsBeside, IsChart, IsCheck, IsExplain, IsList};
 ghost use Rattle.sim_inputs.specs.CommandLine.{IsLitmus, IsMigrate, IsOutcomes, IsPlain, IsRun, IsSchedule};
-ghost use Rattle.sim_inputs.specs.CommandLine.{IsScript, IsStep, IsQuestion, can_be_drawn, can_be_plain, can_be_run};
+ghost use Rattle.sim_inputs.specs.CommandLine.{IsScript, IsStep, can_be_drawn, can_be_plain, can_be_run};
 ghost use Rattle.sim_inputs.specs.CommandLine.{can_be_told, has_named_folder, is_reported, shows_story};
 
 use crate::chart_ends::{chart_end, do_ends_rise};
@@ -12,10 +12,10 @@ use crate::files::is_standard_input;
 use crate::found_values::{is_set, number, number_or, value_of};
 use crate::line::{
     Beside, ChartCommand, CheckCommand, ExplainCommand, ListCommand, LitmusCommand, MigrateCommand,
-    OutcomesCommand, PlainCommand, QuestionText, RunCommand, ScheduleCommand, ScriptCommand,
-    StepCommand,
+    OutcomesCommand, PlainCommand, RunCommand, ScheduleCommand, ScriptCommand, StepCommand,
 };
 use crate::outcome_options::can_be_searched;
+use crate::questions::{asked_in, question_in};
 use crate::several_tests::{are_several, names_input};
 use crate::test_orders::can_be_tested;
 use crate::themes::{can_be_themed, theme_in};
@@ -280,11 +280,14 @@ fn can_be_drawn(chart: &ChartCommand<'_>) -> bool
 pub(crate) fn outcomes_in<'a>(found: &ArgMatches<'a>) -> Option<OutcomesCommand<'a>>
     ensures { Finds (IsOutcomes (rows_of (found_of found.now))) result }
 {
+    let asked = asked_in(found)?;
     let outcomes = OutcomesCommand {
         image: value_of(found, "IMAGE")?,
         states: number_or(found, "states", USUAL_STATES, u32::MAX)?,
         watch: value_of(found, "watch"),
-        question: question_in(found)?,
+        question: asked.question,
+        why: asked.why,
+        svg: value_of(found, "svg"),
         first: is_set(found, "first"),
         outcome: number(found, "outcome", u32::MAX)?,
         stuck: is_set(found, "stuck"),
@@ -300,22 +303,6 @@ pub(crate) fn outcomes_in<'a>(found: &ArgMatches<'a>) -> Option<OutcomesCommand<
         return None;
     }
     Some(outcomes)
-}
-
-/// The question that is asked of outcomes or of runs, if one is; none where it would be two.
-fn question_in<'a>(found: &ArgMatches<'a>) -> Option<Option<QuestionText<'a>>>
-    ensures { Finds (IsQuestion (rows_of (found_of found.now))) result }
-{
-    let (exists, for_all) = (value_of(found, "exists"), value_of(found, "forall"));
-    let (never, never_stuck) = (value_of(found, "never"), is_set(found, "never-stuck"));
-    match (exists, for_all, never, never_stuck) {
-        (None, None, None, false) => Some(None),
-        (Some(condition), None, None, false) => Some(Some(QuestionText::Exists(condition))),
-        (None, Some(condition), None, false) => Some(Some(QuestionText::ForAll(condition))),
-        (None, None, Some(condition), false) => Some(Some(QuestionText::Never(condition))),
-        (None, None, None, true) => Some(Some(QuestionText::NeverStuck)),
-        _ => None,
-    }
 }
 
 pub(crate) fn litmus_in<'a>(found: &ArgMatches<'a>) -> Option<LitmusCommand<'a>>

@@ -3,7 +3,7 @@
 //!
 //! Read in this order: `line` (what the words may ask for), `hart_count` (how many harts there are), `hints_wanted`
 //! (when hints are told), `files` (the files that they name), `words` (how they are read), `found_commands` (what was
-//! found for each command), `outcome_options` and `test_orders` (whether those of `outcomes` and of a litmus test go
+//! found for each command), `questions` (what is asked of outcomes), `outcome_options` and `test_orders` (whether those of `outcomes` and of a litmus test go
 //! together, and what that asks of an order), `found_values` (what for one option), `several_tests` (litmus tests of
 //! which there are several), `chart_ends` (where a chart begins and ends), `themes` (a picture's colours),
 //! `clap_errors` (what is made of an error of `clap`), `refused_words`, `refused_options` and
@@ -28,6 +28,7 @@ mod hints_wanted;
 mod limits;
 mod line;
 mod outcome_options;
+mod questions;
 mod ranges;
 mod refused_options;
 mod refused_together;

@@ -243,6 +243,10 @@ pub struct OutcomesCommand<'a> {
     pub watch: Option<&'a str>,
     /// What is asked of them.
     pub question: Option<QuestionText<'a>>,
+    /// `--why CONDITION`: it is told why its condition, which `question` asks of none, holds of none.
+    pub why: bool,
+    /// `--svg FILE`: the file that a picture of that is written to. There is none without it.
+    pub svg: Option<&'a str>,
     /// `--first`: the search ends at the first outcome that answers the question, which has a
     /// condition.
     pub first: bool,
@@ -264,7 +268,8 @@ pub struct OutcomesCommand<'a> {
     pub theme: Option<Theme>,
     /// `--all`: each instruction has a row in the story.
     pub all: bool,
-    /// `--lines FILE`: the file of source lines, which stand behind the rows of the story.
+    /// `--lines FILE`: the file of source lines, which stand behind the rows of the story, or behind the accesses
+    /// of why.
     pub lines: Option<&'a str>,
 }
 

@@ -1,13 +1,14 @@
-//! Whether the options of `outcomes` go together: of orders, of stories and of pictures.
+//! Whether the options of `outcomes` go together: of orders, of stories, of pictures and of why.
 
 ghost use Rattle.std.specs.Prelude.{◌≡◌};
-ghost use Rattle.sim_inputs.specs.CommandLine.{are_orders_together, are_stories_together, can_be_searched};
+ghost use Rattle.sim_inputs.specs.CommandLine.{are_orders_together, are_reasons_together, are_stories_together};
+ghost use Rattle.sim_inputs.specs.CommandLine.{can_be_searched};
 ghost use Rattle.sim_inputs.specs.CommandLine.{has_condition, has_no_file, has_one_file, has_one_story, has_story};
 
 use crate::line::{OutcomesCommand, QuestionText};
 use crate::themes::can_be_themed;
 
-/// Whether some state is looked at, and the options of orders, of stories and of pictures go together.
+/// Whether some state is looked at, and the options of orders, of stories, of pictures and of why go together.
 pub(crate) fn can_be_searched(outcomes: &OutcomesCommand<'_>) -> bool
     ensures { result ≡ can_be_searched outcomes.now }
 {
@@ -15,17 +16,29 @@ pub(crate) fn can_be_searched(outcomes: &OutcomesCommand<'_>) -> bool
         && are_orders_together(outcomes)
         && (!outcomes.first || has_condition(outcomes))
         && are_stories_together(outcomes)
+        && are_reasons_together(outcomes)
         && can_be_themed(outcomes.story_svg.is_some(), outcomes.theme.is_some())
 }
 
-/// Whether what says more of a story has one.
+/// Whether what says more of a story has one. (Source lines stand behind accesses, too.)
 fn are_stories_together(outcomes: &OutcomesCommand<'_>) -> bool
     ensures { result ≡ are_stories_together outcomes.now }
 {
     if outcomes.story.is_some() {
         return true;
     }
-    !outcomes.all && (outcomes.story_svg.is_some() || outcomes.lines.is_none())
+    let is_of_lines = outcomes.story_svg.is_some() || outcomes.why;
+    !outcomes.all && (is_of_lines || outcomes.lines.is_none())
+}
+
+/// Whether it is told why where a picture of that is written, and then of all outcomes, with no order beside it.
+fn are_reasons_together(outcomes: &OutcomesCommand<'_>) -> bool
+    ensures { result ≡ are_reasons_together outcomes.now }
+{
+    if !outcomes.why {
+        return outcomes.svg.is_none();
+    }
+    !outcomes.first && outcomes.outcome.is_none() && !outcomes.stuck && has_no_file(outcomes)
 }
 
 /// Whether an order is written of one end alone, and into one file; or none is.

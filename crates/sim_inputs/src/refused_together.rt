@@ -129,6 +129,9 @@ fn refused_of_themes(found: &ArgMatches<'_>) -> Option<RefusedOptions> {
 }
 
 fn refused_of_outcomes(found: &ArgMatches<'_>) -> Option<RefusedOptions> {
+    if let Some(refused) = refused_of_why(found) {
+        return Some(refused);
+    }
     if let Some(refused) = refused_of_questions(found) {
         return Some(refused);
     }
@@ -144,10 +147,62 @@ fn refused_of_outcomes(found: &ArgMatches<'_>) -> Option<RefusedOptions> {
     if has(found, "all") {
         return refused("--all", "--story FILE beside it");
     }
-    if has(found, "lines") && !has(found, "story-svg") {
-        return refused("--lines", "--story FILE or --story-svg FILE beside it");
+    if has(found, "lines") && !has(found, "story-svg") && !has(found, "why") {
+        return refused(
+            "--lines",
+            "--story FILE, --story-svg FILE or --why CONDITION beside it",
+        );
     }
     None
+}
+
+/// A question, part of the outcomes or an order beside why, and its picture without it.
+fn refused_of_why(found: &ArgMatches<'_>) -> Option<RefusedOptions> {
+    if !has(found, "why") {
+        return match has(found, "svg") {
+            true => refused("--svg", "--why CONDITION beside it"),
+            false => None,
+        };
+    }
+    match beside_why(found) {
+        Some(words) => refused(words, ONE_OF_THEM),
+        None => None,
+    }
+}
+
+/// What doesn't stand beside why, with that.
+fn beside_why(found: &ArgMatches<'_>) -> Option<&'static str> {
+    let words = if has(found, "exists") {
+        "--exists --why"
+    } else if has(found, "forall") {
+        "--forall --why"
+    } else if has(found, "never") {
+        "--never --why"
+    } else if has(found, "never-stuck") {
+        "--never-stuck --why"
+    } else if has(found, "first") {
+        "--why --first"
+    } else if has(found, "outcome") {
+        "--why --outcome"
+    } else if has(found, "stuck") {
+        "--why --stuck"
+    } else {
+        return order_beside_why(found);
+    };
+    Some(words)
+}
+
+/// What is of an order doesn't.
+fn order_beside_why(found: &ArgMatches<'_>) -> Option<&'static str> {
+    match written_order(found) {
+        "--witness" => Some("--why --witness"),
+        "--script" => Some("--why --script"),
+        "--story" => Some("--why --story"),
+        "--story-svg" => Some("--why --story-svg"),
+        _ if has(found, "theme") => Some("--why --theme"),
+        _ if has(found, "all") => Some("--why --all"),
+        _ => None,
+    }
 }
 
 /// Two files of a test, what is asked of its states beside runs of the core, what is of one test beside several, and what

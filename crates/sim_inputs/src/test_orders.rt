@@ -18,6 +18,8 @@ impl<'a> LitmusCommand<'a> {
             states: self.states,
             watch: None,
             question: None,
+            why: false,
+            svg: None,
             first: false,
             outcome: self.outcome,
             stuck: false,

@@ -56,7 +56,8 @@ F actor hart number pc word predicted|T actor number value next address data out
     (
         "smtsim outcomes --help",
         "Usage: smtsim outcomes [OPTIONS] <IMAGE>|--config <FILE>|--harts <N>|--states <N>|--watch <LIST>|\
---exists <CONDITION>|--forall <CONDITION>|--never <CONDITION>|--never-stuck|--first|--outcome <N>|--stuck|\
+--exists <CONDITION>|--forall <CONDITION>|--never <CONDITION>|--never-stuck|\
+--why <CONDITION>|--svg <FILE>|--first|--outcome <N>|--stuck|\
 --witness <FILE>|--script <FILE>|--story <FILE>|--story-svg <FILE>|--theme <THEME>|--all|--lines <FILE>|a0@1,counter,next[3],node+8|h0=1 & !(a0@1=2)",
     ),
     (

@@ -125,6 +125,25 @@ smtsim outcomes --forall x=1 --never-stuck a
 smtsim outcomes --never x=1 --never-stuck a
 smtsim outcomes --first a
 smtsim outcomes --first --never-stuck a
+smtsim outcomes --why a
+smtsim outcomes --exists x=1 --why x=1 a
+smtsim outcomes --forall x=1 --why x=1 a
+smtsim outcomes --never x=1 --why x=1 a
+smtsim outcomes --never-stuck --why x=1 a
+smtsim outcomes --why x=1 --why x=1 a
+smtsim outcomes --why x=1 --first a
+smtsim outcomes --why x=1 --outcome 1 a
+smtsim outcomes --why x=1 --stuck a
+smtsim outcomes --why x=1 --outcome 1 --witness w a
+smtsim outcomes --why x=1 --witness w a
+smtsim outcomes --why x=1 --script s a
+smtsim outcomes --why x=1 --story s a
+smtsim outcomes --why x=1 --story-svg s a
+smtsim outcomes --why x=1 --theme dark --svg p a
+smtsim outcomes --why x=1 --all a
+smtsim outcomes --why x=1 --svg - a
+smtsim outcomes --svg p a
+smtsim outcomes --never x=1 --svg p a
 smtsim outcomes --exists x=1 --witness w --story s a
 smtsim outcomes --never x=1 --script s --story t a
 smtsim outcomes --exists x=1 --all a
@@ -192,6 +211,6 @@ fn other_words_are_refused(rt: HostRuntime) {
         holds(&rt, text, are_refused(text, rt.alloc()) == Ok(true));
         rows = rows.wrapping_add(1);
     }
-    assert!(rt; rows == 168);
+    assert!(rt; rows == 187);
     assert!(rt; is_refusal(read_words(&[], rt.alloc())));
 }

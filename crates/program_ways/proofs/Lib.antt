@@ -1,0 +1,5 @@
+mod Bytes
+mod Coming
+mod Listing
+mod Moving
+mod SameOp
