@@ -2,6 +2,7 @@
 
 ghost use Rattle.std.specs.Prelude.{◌≡◌, ◌<◌, IfSome};
 ghost use Rattle.condensed_machine.specs.Decoded.{Knows};
+ghost use Rattle.condensed_machine.specs.Machine.{Grows};
 
 use crate::rows::holds;
 use condensed_machine::{CondensedMachine, State};
@@ -46,7 +47,7 @@ struct Seen {
 fn step_of(machine: &mut CondensedMachine, state: State, hart: u8) -> Option<Step<State, u16>>
     requires hart { hart < machine.old.program.harts }
     requires known { Knows machine.old state }
-    ensures program { machine.new.program ≡ machine.old.program }
+    ensures grows { Grows machine.old machine.new }
     ensures knows { IfSome result (λ step. Knows machine.new step.state) }
 {
     match machine.step(state, hart) {
