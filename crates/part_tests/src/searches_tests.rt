@@ -3,7 +3,7 @@
 mod counters;
 
 use counters::Counters;
-use searches::{Extent, Goal, Onlooker, Search, explore};
+use searches::{Extent, Goal, Onlooker, Search, Unmade, explore};
 use std::alloc::{AllocError, Global};
 use std::cell::Cell;
 
@@ -12,6 +12,7 @@ fn to_two(waits: bool) -> Counters {
     Counters {
         limit: 2,
         waits,
+        highest: 2,
         asked: 0,
     }
 }
@@ -81,6 +82,24 @@ fn no_state_is_within_a_budget_of_none(rt: HostRuntime) {
     assert!(rt; explored.search.ends().len() == 1);
 }
 
+/// What the search lacks for two harts that count to 2, by a machine that knows of counts up to 1.
+fn lack_below_two(budget: u32, alloc: Global) -> Option<u8> {
+    let mut machine = to_two(false);
+    machine.highest = 1;
+    match explore(&mut machine, (0, 0), budget, &(), &(), alloc) {
+        Err(Unmade::Lacks(count)) => Some(count),
+        Err(Unmade::Memory) => None,
+        Ok(_) => None,
+    }
+}
+
+// The step from (1, 0) to (2, 0) is refused; where the budget is 0, in the first dive.
+#[test]
+fn a_step_is_refused_for_what_the_machine_lacks(rt: HostRuntime) {
+    assert!(rt; lack_below_two(9, rt.alloc()) == Some(2));
+    assert!(rt; lack_below_two(0, rt.alloc()) == Some(2));
+}
+
 /// The goal that all ends meet.
 #[derive(Drop)]
 struct AnyEnd;
@@ -140,6 +159,7 @@ fn the_onlooker_is_told_now_and_then(rt: HostRuntime) {
     let mut machine = Counters {
         limit: 99,
         waits: false,
+        highest: 99,
         asked: 0,
     };
     let notes = Notes {

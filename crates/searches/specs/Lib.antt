@@ -1,5 +1,6 @@
 pub mod Orders
 pub mod Found
+pub mod Unmade
 pub mod Ending
 pub mod Tied
 pub mod Sweeps

@@ -1,10 +1,11 @@
 //! How a search goes on that has met its budget: by dives, each of which follows one order of the harts as
 //! far as an end. Ends lie deepest, so breadth alone finds hardly any before the budget is met.
 
-ghost use Rattle.std.specs.Prelude.{◌≡◌, ◌^◌, ◌<◌, ◌≤◌, true, length, IfOk, OnOk};
+ghost use Rattle.std.specs.Prelude.{◌≡◌, ◌^◌, ◌<◌, ◌≤◌, true, length, IfOk, IfErr, OnOk};
 ghost use Rattle.searches.specs.Found.{IsEndAt, IsToldFor};
 ghost use Rattle.searches.specs.Sweeps.{found_by, Keeps, AreTraced, IsEndedFor};
 ghost use Rattle.searches.specs.Dives.{HasGoneOn};
+ghost use Rattle.searches.specs.Unmade.{MayBeUnmade};
 ghost use Rattle.searches.specs.declared.extent.Extent.TheVariants.{First};
 
 use crate::extent::Extent;
@@ -13,6 +14,7 @@ use crate::machine::Machine;
 use crate::origin::Origin;
 use crate::sweep::Sweep;
 use crate::taking_turns::next_turn;
+use crate::unmade::Unmade;
 use std::alloc::AllocError;
 
 /// How many dives there are.
@@ -28,13 +30,13 @@ const STEPS_OF_DIVE: u32 = 16_384;
 const STATES_BEYOND: u32 = 65_536;
 
 /// Dives from states of the later half of those found, spread evenly, until there are as many states as
-/// there may be or an end meets the goal. Errors: want of memory.
+/// there may be or an end meets the goal. Errors: want of memory, or what the machine lacks for a step.
 pub(crate) fn dive<M: Machine, G: Goal<M>>(
     sweep: &mut Sweep<M::State, M::Way>,
     machine: &mut M,
     budget: u32,
     goal: &G,
-) -> Result<Extent, AllocError>
+) -> Result<Extent, Unmade<M::Lack>>
     requires fits { G.Fits goal.now machine.old }
     requires harts { sweep.old.harts ≡ M.harts machine.old }
     requires traced { AreTraced (M.Knows machine.old) (M.Steps machine.old) (found_by sweep.old) }
@@ -48,6 +50,7 @@ pub(crate) fn dive<M: Machine, G: Goal<M>>(
     ensures few { OnOk result (length sweep.new.states.keys ≤ 2 ^ 32) }
     ensures ended { IfOk result
         (IsEndedFor (G.Meets goal.now machine.new) budget (found_by sweep.new)) }
+    ensures lacks { IfErr result (MayBeUnmade (M.MayLack machine.new)) }
 {
     let found = sweep.states.len();
     let stride = found / (SPREAD * DIVES as usize) + 1;
@@ -77,7 +80,7 @@ fn dive_from<M: Machine, G: Goal<M>>(
     number: u8,
     most: usize,
     goal: &G,
-) -> Result<bool, AllocError>
+) -> Result<bool, Unmade<M::Lack>>
     requires fits { G.Fits goal.now machine.old }
     requires harts { sweep.old.harts ≡ M.harts machine.old }
     requires traced { AreTraced (M.Knows machine.old) (M.Steps machine.old) (found_by sweep.old) }
@@ -92,6 +95,7 @@ fn dive_from<M: Machine, G: Goal<M>>(
     ensures few { OnOk result (length sweep.new.states.keys ≤ 2 ^ 32) }
     ensures met { IfOk result (λ is_met. is_met ≡ true
         → IsToldFor (G.Meets goal.now machine.new) (found_by sweep.new) First) }
+    ensures lacks { IfErr result (MayBeUnmade (M.MayLack machine.new)) }
 {
     let mut place = start;
     let mut hart = first_hart(number, sweep.harts);
@@ -134,7 +138,7 @@ fn go_on<M: Machine>(
     machine: &mut M,
     place: u32,
     hart: u8,
-) -> Result<Option<Reached>, AllocError>
+) -> Result<Option<Reached>, Unmade<M::Lack>>
     requires harts { sweep.old.harts ≡ M.harts machine.old }
     requires traced { AreTraced (M.Knows machine.old) (M.Steps machine.old) (found_by sweep.old) }
     requires inside { place < length sweep.old.states.keys }
@@ -147,6 +151,7 @@ fn go_on<M: Machine>(
     ensures kept { OnOk result (Keeps sweep.old.states.keys sweep.new.states.keys) }
     ensures few { OnOk result (length sweep.new.states.keys ≤ 2 ^ 32) }
     ensures gone { IfOk result (HasGoneOn (M.Steps machine.new) (found_by sweep.new) place) }
+    ensures lacks { IfErr result (MayBeUnmade (M.MayLack machine.new)) }
 {
     let state = sweep.states.as_slice()[place as usize];
     match next_turn(machine, state, hart)? {

@@ -1,8 +1,9 @@
 ghost use Rattle.std.specs.Prelude.{◌≡◌, ◌≢◌, ◌+◌, ◌^◌, ◌<◌, ◌≤◌, ◌++◌, ◌∷◌, [], Some, None, length, slice_get};
-ghost use Rattle.std.specs.Prelude.{IfOk, OnOk, Contains};
+ghost use Rattle.std.specs.Prelude.{IfOk, IfErr, OnOk, Contains};
 ghost use Rattle.searches.specs.Found.{IsExplored, IsToldFor};
 ghost use Rattle.searches.specs.Sweeps.{found_by, with_edge, Keeps, IsSwept, AreTraced, IsEndedIf};
 ghost use Rattle.searches.specs.Sweeps.{IsSweptAs};
+ghost use Rattle.searches.specs.Unmade.{MayBeUnmade};
 
 use crate::diving::dive;
 use crate::explored::Explored;
@@ -12,7 +13,8 @@ use crate::machine::Machine;
 use crate::onlooker::Onlooker;
 use crate::origin::Origin;
 use crate::sweep::Sweep;
-use std::alloc::{AllocError, Global};
+use crate::unmade::Unmade;
+use std::alloc::Global;
 
 /// How many states are swept between two looks at the search.
 const STATES_BETWEEN_LOOKS: u32 = 4096;
@@ -22,7 +24,8 @@ const STATES_BETWEEN_LOOKS: u32 = 4096;
 ///
 /// Where there are more than `budget` states it goes no further in breadth, and dives for ends from
 /// some of the states found last; what it finds there is beyond the budget. It ends early with the
-/// first end that meets the goal. Then what it has found is real, and isn't all. Errors: want of memory.
+/// first end that meets the goal. Then what it has found is real, and isn't all. Errors: want of memory;
+/// or what the machine lacks for the first step that it refuses.
 pub fn explore<M: Machine, O: Onlooker, G: Goal<M>>(
     machine: &mut M,
     start: M::State,
@@ -30,7 +33,7 @@ pub fn explore<M: Machine, O: Onlooker, G: Goal<M>>(
     onlooker: &O,
     goal: &G,
     alloc: Global,
-) -> Result<Explored<M::State, M::Way>, AllocError>
+) -> Result<Explored<M::State, M::Way>, Unmade<M::Lack>>
     requires fits { G.Fits goal.now machine.old }
     requires known { M.Knows machine.old start }
     ensures grows { M.Grows machine.old machine.new }
@@ -40,6 +43,7 @@ pub fn explore<M: Machine, O: Onlooker, G: Goal<M>>(
         → M.Knows machine.new s) }
     ensures told { IfOk result (λ explored. IsToldFor (G.Meets goal.now machine.new) explored.search
         explored.extent) }
+    ensures lacks { IfErr result (MayBeUnmade (M.MayLack machine.new)) }
 {
     let mut sweep = Sweep::begin(start, machine.harts(), alloc)?;
     let extent = sweep_and_dive(&mut sweep, machine, budget, onlooker, goal)?;
@@ -56,7 +60,7 @@ fn sweep_and_dive<M: Machine, O: Onlooker, G: Goal<M>>(
     budget: u32,
     onlooker: &O,
     goal: &G,
-) -> Result<Extent, AllocError>
+) -> Result<Extent, Unmade<M::Lack>>
     requires fits { G.Fits goal.now machine.old }
     requires harts { sweep.old.harts ≡ M.harts machine.old }
     requires swept { IsSwept (M.Knows machine.old) (M.Steps machine.old) 0 0 (found_by sweep.old) }
@@ -67,6 +71,7 @@ fn sweep_and_dive<M: Machine, O: Onlooker, G: Goal<M>>(
         (G.Meets goal.now machine.new) budget (found_by sweep.new)) }
     ensures kept { OnOk result (Keeps sweep.old.states.keys sweep.new.states.keys) }
     ensures few { OnOk result (length sweep.new.states.keys ≤ 2 ^ 32) }
+    ensures lacks { IfErr result (MayBeUnmade (M.MayLack machine.new)) }
 {
     match sweep_all(sweep, machine, budget, onlooker, goal)? {
         Extent::Whole => Ok(Extent::Whole),
@@ -85,7 +90,7 @@ fn sweep_all<M: Machine, O: Onlooker, G: Goal<M>>(
     budget: u32,
     onlooker: &O,
     goal: &G,
-) -> Result<Extent, AllocError>
+) -> Result<Extent, Unmade<M::Lack>>
     requires fits { G.Fits goal.now machine.old }
     requires harts { sweep.old.harts ≡ M.harts machine.old }
     requires swept { IsSwept (M.Knows machine.old) (M.Steps machine.old) 0 0 (found_by sweep.old) }
@@ -96,6 +101,7 @@ fn sweep_all<M: Machine, O: Onlooker, G: Goal<M>>(
         (G.Meets goal.now machine.new) budget (found_by sweep.new)) }
     ensures kept { OnOk result (Keeps sweep.old.states.keys sweep.new.states.keys) }
     ensures few { OnOk result (length sweep.new.states.keys ≤ budget + 1) }
+    ensures lacks { IfErr result (MayBeUnmade (M.MayLack machine.new)) }
 {
     let mut place: u32 = 0;
     while (place as usize) < sweep.states.len() {
@@ -127,7 +133,7 @@ fn expand<M: Machine, G: Goal<M>>(
     place: u32,
     budget: u32,
     goal: &G,
-) -> Result<Option<Extent>, AllocError>
+) -> Result<Option<Extent>, Unmade<M::Lack>>
     requires fits { G.Fits goal.now machine.old }
     requires inside { place < length sweep.old.states.keys }
     requires few { length sweep.old.states.keys ≤ budget }
@@ -144,6 +150,7 @@ fn expand<M: Machine, G: Goal<M>>(
         (IsEndedIf (G.Meets goal.now machine.new) budget (found_by sweep.new)) }
     ensures kept { OnOk result (Keeps sweep.old.states.keys sweep.new.states.keys) }
     ensures few { OnOk result (length sweep.new.states.keys ≤ budget + 1) }
+    ensures lacks { IfErr result (MayBeUnmade (M.MayLack machine.new)) }
 {
     let state = sweep.states.as_slice()[place as usize];
     let mut is_end = true;
@@ -172,7 +179,7 @@ fn follow<M: Machine>(
     state: M::State,
     place: u32,
     hart: u8,
-) -> Result<Option<u32>, AllocError>
+) -> Result<Option<u32>, Unmade<M::Lack>>
     requires here { slice_get sweep.old.states.keys place ≡ Some state }
     requires few { length sweep.old.states.keys < 2 ^ 32 }
     requires present { hart < sweep.old.harts }
@@ -187,6 +194,7 @@ fn follow<M: Machine>(
     ensures one { OnOk result (length sweep.new.states.keys ≤ length sweep.old.states.keys + 1) }
     ensures edge { IfOk result
         (λ edge. sweep.new.edges.items ≡ sweep.old.edges.items ++ edge ∷ []) }
+    ensures lacks { IfErr result (MayBeUnmade (M.MayLack machine.new)) }
 {
     let edge = next_edge(sweep, machine, state, place, hart)?;
     sweep.edges.push(edge)?;
@@ -201,7 +209,7 @@ fn next_edge<M: Machine>(
     state: M::State,
     place: u32,
     hart: u8,
-) -> Result<Option<u32>, AllocError>
+) -> Result<Option<u32>, Unmade<M::Lack>>
     requires here { slice_get sweep.old.states.keys place ≡ Some state }
     requires few { length sweep.old.states.keys < 2 ^ 32 }
     requires present { hart < sweep.old.harts }
@@ -215,6 +223,7 @@ fn next_edge<M: Machine>(
         place (hart + 1) (with_edge (found_by sweep.new) edge)) }
     ensures kept { OnOk result (Keeps sweep.old.states.keys sweep.new.states.keys) }
     ensures one { OnOk result (length sweep.new.states.keys ≤ length sweep.old.states.keys + 1) }
+    ensures lacks { IfErr result (MayBeUnmade (M.MayLack machine.new)) }
 {
     match machine.step(state, hart)? {
         None => Ok(None),

@@ -1,7 +1,8 @@
-ghost use Rattle.std.specs.Prelude.{◌≡◌, ◌<◌, ℕ, Option, Some, None, true, IfOk, IfSome};
+ghost use Rattle.std.specs.Prelude.{◌≡◌, ◌<◌, ℕ, Option, Some, None, true, IfOk, IfErr, IfSome};
+ghost use Rattle.searches.specs.Unmade.{MayBeUnmade};
 
 use crate::step::Step;
-use std::alloc::AllocError;
+use crate::unmade::Unmade;
 use std::hash::Hash;
 
 /// A machine that goes from state to state by steps of its harts. It may learn of new states as it
@@ -15,6 +16,9 @@ pub trait Machine {
     /// What a step was, beside the hart that made it.
     type Way: Copy;
 
+    /// What a step does that the machine may lack, where it must know that ahead of its steps.
+    type Lack: Copy;
+
     /// How many harts there are.
     ghost harts: { Self → ℕ };
 
@@ -27,20 +31,24 @@ pub trait Machine {
     /// The machine has become another by learning.
     ghost Grows: { Self → Self → Type 0 };
 
+    /// The machine lacks this, so that it may refuse a step which does it.
+    ghost MayLack: { Self → Self.Lack → Type 0 };
+
     fn harts(&self) -> u8
         ensures { result ≡ harts self.now };
 
-    /// The step as it is. Errors: want of memory.
+    /// The step as it is. Errors: want of memory, or what the machine lacks.
     fn step(
         &mut self,
         state: Self::State,
         hart: u8,
-    ) -> Result<Option<Step<Self::State, Self::Way>>, AllocError>
+    ) -> Result<Option<Step<Self::State, Self::Way>>, Unmade<Self::Lack>>
         requires present { hart < harts self.old }
         requires known { Knows self.old state }
         ensures grows { Grows self.old self.new }
         ensures steps { IfOk result (Steps self.new state hart) }
-        ensures knows { IfOk result (λ next. IfSome next (λ step. Knows self.new step.state)) };
+        ensures knows { IfOk result (λ next. IfSome next (λ step. Knows self.new step.state)) }
+        ensures lacks { IfErr result (MayBeUnmade (MayLack self.new)) };
 
     ghost learns_nothing: { (m : Self) → Grows m m };
 
