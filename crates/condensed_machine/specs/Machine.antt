@@ -5,36 +5,41 @@ use Rattle.elf_image.specs.Image.{ProgramImage, code_writable}
 use Rattle.smt_model.specs.{Setup.Setup}
 use Rattle.smt_laws.specs.Code.{HoldsItsCode}
 use Rattle.outcome_laws.specs.Tables.{Tables, IsTables}
-use Rattle.live_registers.specs.Table.{live_of, kept_of}
+use Rattle.live_registers.specs.{Table.live_of, Table.kept_of, Targets.allows}
+use Rattle.live_registers.specs.declared.targets.{Jump.Jump, Targets.Targets}
 use Rattle.live_registers.specs.declared.table.LiveTable.{LiveTable}
 use Rattle.sc_machine.specs.declared.hart.Hart.{Hart}
 use Rattle.changed_memory.specs.Shared.{Shared, byte_at}
 
 -- What is searched: an image, how many harts run it, which registers are wanted of each at its end, by their
--- numbers, and which registers may be read yet at each pc, and where a reservation may be used yet.
+-- numbers; where jumps by registers go on, and, if they do, which registers may be read yet at each pc, and where a
+-- reservation may be used yet.
 pub record Program : Type 0 where
   pub image : ProgramImage
   pub harts : ℕ
   pub watched : List Bool
+  pub targets : Targets
   pub live : LiveTable
 
--- What is known ahead of each step: which registers are live, and where a reservation is kept. All else is as in any
--- program.
+-- What is known ahead of each step: where a jump by a register goes on, which registers are live, and where a
+-- reservation is kept. All else is as in any program.
 abbrev pub tables_of : Program → Tables
 tables_of p = record {
   live = live_of p.live;
   kept = kept_of p.live;
-  targets = λ pc to. true;
+  targets = allows p.targets;
   ahead = λ h pc what writes. true;
   rewritten = λ word. true;
   seen = λ word. true;
 }
 
--- There are harts, and no more than there may be; each register is watched or isn't; the tables are good.
+-- There are harts, and no more than there may be; each register is watched or isn't; where the code may be written any
+-- word of it may become a jump, which may go anywhere; the tables are good.
 pub record IsSound (p : Program) : Type 0 where
   pub some : 0 < p.harts
   pub few : p.harts ≤ most_harts
   pub registers : length p.watched ≡ 32
+  pub writable : code_writable p.image ≡ true → p.targets.anywhere ≡ true
   pub tables : IsTables p.image (tables_of p)
 
 -- The program, and the harts and shared parts found so far, and the numbers of the harts behind the first ones of a
@@ -71,9 +76,20 @@ pub record Grows (m n : Machine) : Type 0 where
 abbrev pub InEachSetup : Program → (Setup → Type 0) → Type 0
 InEachSetup p P = (setup : Setup) → setup.image ≡ p.image → setup.harts ≡ p.harts → P setup
 
--- The machine of so many harts that run an image, and of which these registers are watched.
-pub record IsNew (image : ProgramImage) (harts : ℕ) (watched : List Bool) (m : Machine) : Type 0 where
+-- The table of targets lacks a jump: it isn't one by which each may go anywhere, and doesn't list this one.
+abbrev pub IsLacking : Targets → Jump → Type 0
+IsLacking targets jump = (targets.anywhere ≡ false) × (allows targets jump.from jump.to ≡ false)
+
+-- The machine refuses a step only for such a jump.
+abbrev pub MayLack : Machine → Jump → Type 0
+MayLack m jump = IsLacking m.program.targets jump
+
+-- The machine of so many harts that run an image, and of which these registers are watched. It goes by the table of
+-- targets that it was given, unless the code may be written.
+pub record IsNew (image : ProgramImage) (harts : ℕ) (watched : List Bool) (targets : Targets) (m : Machine) : Type 0 where
   pub image_is : m.program.image ≡ image
   pub count : m.program.harts ≡ harts
   pub watched_are : m.program.watched ≡ watched
+  pub anywhere : targets.anywhere ≡ true → m.program.targets.anywhere ≡ true
+  pub targets_are : code_writable image ≡ false → m.program.targets ≡ targets
   pub sound : IsSound m.program

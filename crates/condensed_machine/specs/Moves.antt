@@ -1,10 +1,11 @@
 -- What a step of a hart comes to, by the numbers of parts: it hangs on the hart, on how that stands and on what the
 -- harts share, and on nothing else. [Michie 1968, "Memo functions and machine learning"]
-use Rattle.std.specs.Prelude.{◌≡◌, ◌&&◌, Bool, nat_eq, List, Some, slice_index}
+use Rattle.std.specs.Prelude.{◌≡◌, ◌&&◌, Bool, true, nat_eq, List, Some, slice_index}
 use Rattle.std.specs.Map.{lookup}
 use Rattle.sc_machine.specs.declared.hart.Hart.{Hart}
 use Rattle.changed_memory.specs.Shared.{Shared}
-use Rattle.condensed_machine.specs.Machine.{Machine, Program, HasCode}
+use Rattle.outcome_laws.specs.Local.{fits}
+use Rattle.condensed_machine.specs.Machine.{Machine, Program, HasCode, tables_of}
 use Rattle.condensed_machine.specs.Executing.{InEachState, IsExecuted, IsBehind, ComesToRest}
 use Rattle.condensed_machine.specs.{Resting.keeps_reservation, Tables.HasNumber, Tables.IsSharedAfter}
 use Rattle.condensed_machine.specs.declared.executed.Executed.{Executed}
@@ -12,8 +13,8 @@ use Rattle.condensed_machine.specs.declared.moves.MoveFrom.{MoveFrom}
 use Rattle.condensed_machine.specs.declared.moves.MoveTo.{MoveTo}
 
 -- From the hart and the shared parts with these numbers the hart's next instruction leads, and so many local steps
--- behind it, to those with the others, in whatever state they stand so. x0 is 0 there, and code that may not be
--- written is what the image has.
+-- behind it, to those with the others, in whatever state they stand so; and it fits the tables. x0 is 0 there, and code
+-- that may not be written is what the image has.
 pub record IsMove (p : Program) (harts : List Hart) (shared : List Shared) (from : MoveFrom)
     (to : MoveTo) : Type 0 where
   pub here : Hart
@@ -27,6 +28,7 @@ pub record IsMove (p : Program) (harts : List Hart) (shared : List Shared) (from
   pub moved : Hart
   pub executed : InEachState p from.hart here common (λ setup s. IsExecuted setup s from.hart done)
   pub is_behind : InEachState p from.hart here common (λ setup s. IsBehind setup s from.hart behind)
+  pub fitting : InEachState p from.hart here common (λ setup s. fits setup (tables_of p) from.hart s ≡ true)
   pub rests : ComesToRest p behind to.way moved
   pub has : HasNumber harts moved to.number
   pub after : IsSharedAfter p.image from.hart done (keeps_reservation p.live moved) common shared to.shared

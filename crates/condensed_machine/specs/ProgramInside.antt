@@ -8,7 +8,13 @@ use Rattle.condensed_machine.specs.declared.program.Program.TheInside.{Inside}
 
 -- What callers see of a program.
 abbrev pub program_of : Inside → Program
-program_of a = record { image = a.start.image; harts = a.harts; watched = a.watched; live = a.live }
+program_of a = record {
+  image = a.start.image;
+  harts = a.harts;
+  watched = a.watched;
+  targets = a.targets;
+  live = a.live;
+}
 
 -- The image is well-formed; code and memory are as it has them, and it is known whether the code may be written.
 pub record IsProgram (a : Inside) : Type 0 where

@@ -3,8 +3,9 @@ use Rattle.std.specs.Prelude.{◌≡◌, ℕ, ◌<◌, ◌≤◌, ◌==◌, ◌&
 use Rattle.elf_image.specs.Image.{ProgramImage, code_writable}
 use Rattle.smt_model.specs.{Setup.Setup, Plain.Plain, Plain.op_at_pc, Plain.computes}
 use Rattle.sc_machine.specs.{Harts.HartAgrees, declared.hart.Hart.Hart}
-use Rattle.outcome_laws.specs.{Paths.can_step, Paths.HasItsCode, Tables.Tables, Tables.AllowsAll}
-use Rattle.outcome_laws.specs.{Local.is_silent, Search.IsLocalPath}
+use Rattle.outcome_laws.specs.{Paths.can_step, Paths.HasItsCode, Tables.Tables}
+use Rattle.outcome_laws.specs.{Local.is_silent, Local.fits, Search.IsLocalPath}
+use Rattle.live_registers.specs.{Targets.allows, declared.targets.Targets.Targets}
 
 -- How many local steps are followed at once.
 abbrev pub most_local_steps : ℕ
@@ -31,29 +32,37 @@ pub record GoesOn (setup : Setup) (tables : Tables) (h steps : ℕ) (s : Plain) 
   pub agrees : HartAgrees there h y
   pub others : OthersStay h s there
 
--- Whichever hart x is, in whatever state, so many steps make y of it that are local in any tables that allow all.
-abbrev pub LeadsLocally : ProgramImage → Hart → ℕ → Hart → Type 0
-LeadsLocally image x steps y = (setup : Setup) (tables : Tables) (h : ℕ) (s : Plain) → AllowsAll tables
-    → setup.image ≡ image → h < setup.harts → HasItsCode setup s → HartAgrees s h x
+-- By the tables jumps by registers go on where these targets say, and each hart may touch anything.
+pub record HasTargets (targets : Targets) (tables : Tables) : Type 0 where
+  pub targets_are : tables.targets ≡ allows targets
+  pub ahead : (h pc what : ℕ) (writes : Bool) → tables.ahead h pc what writes ≡ true
+
+-- Whichever hart x is, in whatever state, so many steps make y of it that are local in any tables with these targets.
+abbrev pub LeadsLocally : ProgramImage → Targets → Hart → ℕ → Hart → Type 0
+LeadsLocally image targets x steps y = (setup : Setup) (tables : Tables) (h : ℕ) (s : Plain)
+    → HasTargets targets tables → setup.image ≡ image → h < setup.harts → HasItsCode setup s → HartAgrees s h x
     → GoesOn setup tables h steps s y
 
 -- The next step of hart h is followed: the code may not be written, and the step ends or stops its hart, or neither
--- touches memory nor puts a byte out. Any such step is local.
-abbrev pub is_followed : Setup → ℕ → Plain → Bool
-is_followed setup h s = not (code_writable setup.image) && is_silent (op_at_pc setup s h) (computes setup s h)
+-- touches memory nor puts a byte out; and it fits. Any such step is local.
+abbrev pub is_followed : Setup → Tables → ℕ → Plain → Bool
+is_followed setup tables h s =
+    not (code_writable setup.image)
+    && (is_silent (op_at_pc setup s h) (computes setup s h) && fits setup tables h s)
 
 -- Whichever hart x is, in whatever state, it doesn't go or its next step isn't one that is followed.
-abbrev pub StandsStill : ProgramImage → Hart → Type 0
-StandsStill image x = (setup : Setup) (h : ℕ) (s : Plain) → setup.image ≡ image → HasItsCode setup s
-    → HartAgrees s h x → (can_step setup h s && is_followed setup h s) ≡ false
+abbrev pub StandsStill : ProgramImage → Targets → Hart → Type 0
+StandsStill image targets x = (setup : Setup) (tables : Tables) (h : ℕ) (s : Plain)
+    → HasTargets targets tables → setup.image ≡ image → HasItsCode setup s → HartAgrees s h x
+    → (can_step setup h s && is_followed setup tables h s) ≡ false
 
 -- One local step makes y of x, where one was made; else there is none, and y is x.
-abbrev pub StepsLocally : ProgramImage → Hart → Bool → Hart → Type 0
-StepsLocally image x true y = LeadsLocally image x 1 y
-StepsLocally image x false y = StandsStill image x × (y ≡ x)
+abbrev pub StepsLocally : ProgramImage → Targets → Hart → Bool → Hart → Type 0
+StepsLocally image targets x true y = LeadsLocally image targets x 1 y
+StepsLocally image targets x false y = StandsStill image targets x × (y ≡ x)
 
 -- So many local steps make y of x, and no more than may be made; where more may, there is no other.
-pub record SettlesAs (image : ProgramImage) (x : Hart) (steps : ℕ) (y : Hart) : Type 0 where
-  pub leads : LeadsLocally image x steps y
+pub record SettlesAs (image : ProgramImage) (targets : Targets) (x : Hart) (steps : ℕ) (y : Hart) : Type 0 where
+  pub leads : LeadsLocally image targets x steps y
   pub few : steps ≤ most_local_steps
-  pub settled : steps < most_local_steps → StandsStill image y
+  pub settled : steps < most_local_steps → StandsStill image targets y

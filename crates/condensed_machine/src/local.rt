@@ -1,14 +1,17 @@
 //! Steps that no other hart sees, and that see none: what such a step does needs no memory.
 
-ghost use Rattle.std.specs.Prelude.{◌≡◌, ℕ, Bool, true, false, IfSome, is_some};
+ghost use Rattle.std.specs.Prelude.{◌≡◌, ◌&&◌, ℕ, Bool, true, false, IfSome, is_some};
 ghost use Rattle.elf_image.specs.Image.{byte_in, code_writable};
 ghost use Rattle.decoded_code.specs.Code.{IsCodeOf};
-ghost use Rattle.outcome_laws.specs.Local.{is_silent};
+ghost use Rattle.outcome_laws.specs.Local.{is_silent, keeps_to};
+ghost use Rattle.live_registers.specs.Targets.{allows};
 ghost use Rattle.smt_model.specs.Effects.{effect_of};
 ghost use Rattle.condensed_machine.specs.Settling.{StepsLocally};
 
+use crate::jumping::keeps_to;
 use decoded_code::Code;
 use events::Effect;
+use live_registers::Targets;
 use rv_execute::{Computed, effect_of, last_effect};
 use rv_instr::Op;
 use sc_machine::{Hart, compute};
@@ -30,19 +33,32 @@ fn local_effect(op: Op, computed: Computed) -> Option<Effect>
     Some(effect_of(op, computed, 0, false))
 }
 
-/// Makes the next step of a hart where the hart goes and the step is local. Answers whether it was made.
+/// The effect of such an instruction, found at a pc, where it doesn't jump by a register to where the table has no jump.
+fn followed_effect(targets: &Targets, op: Op, pc: u32, computed: Computed) -> Option<Effect>
+    ensures followed { is_some result
+        ≡ (is_silent op computed && keeps_to (allows targets.now) op pc computed.next) }
+    ensures effect { IfSome result (λ effect. (now : ℕ) (held : Bool)
+        → effect ≡ effect_of op computed now held) }
+{
+    if !keeps_to(targets, op, pc, computed.next) {
+        return None;
+    }
+    local_effect(op, computed)
+}
+
+/// Makes the next step of a hart where the hart goes, and the step is local and fits. Answers whether it was made.
 /// The code is what the image has, as it may not be written.
-pub(crate) fn step_locally(start: &Memory, code: &Code, hart: &mut Hart) -> bool
+pub(crate) fn step_locally(start: &Memory, code: &Code, targets: &Targets, hart: &mut Hart) -> bool
     requires code { IsCodeOf start.now.image (byte_in start.now.image) code.now }
     requires fixed { code_writable start.now.image ≡ false }
-    ensures { StepsLocally start.now.image hart.old result hart.new }
+    ensures { StepsLocally start.now.image targets.now hart.old result hart.new }
 {
     if !hart.is_going() {
         return false;
     }
     let op = code.op_at(hart.pc);
     let computed = compute(start, op, hart);
-    match local_effect(op, computed) {
+    match followed_effect(targets, op, hart.pc, computed) {
         None => false,
         Some(effect) => {
             hart.advance(op.destination(), effect);

@@ -16,6 +16,7 @@ use crate::state::{FAR_HARTS, State};
 use changed_memory::SharedState;
 use elf_image::Image;
 use indexmap::{IndexMap, IndexSet};
+use live_registers::Targets;
 use numbers::Reg;
 use numbers::sizes::MOST_HARTS;
 use sc_machine::{Hart, PlainRefused};
@@ -54,21 +55,23 @@ impl Model for CondensedMachine {
 
 impl CondensedMachine {
     /// The machine of an image with `harts` harts, 1 to `MOST_HARTS`. The registers that are watched are
-    /// those whose numbers count at an end of a hart: all other registers count while they may be read yet.
+    /// those whose numbers count at an end of a hart: all other registers count while they may be read yet,
+    /// jumps by registers going on where `targets` says. Where the code may be written they may go anywhere.
     /// Refused: another number of harts, or want of memory.
     pub fn new(
         image: &Image,
         harts: u8,
         watched: [bool; REGISTERS],
+        targets: Targets,
         alloc: Global,
     ) -> Result<CondensedMachine, PlainRefused>
-        ensures ok { IfOk result (IsNew image.now harts watched) }
+        ensures ok { IfOk result (IsNew image.now harts watched targets) }
         ensures harts { (result ≡ Err Harts) ↔ (are_harts harts ≡ false) }
     {
         if harts == 0 || harts > MOST_HARTS {
             return Err(PlainRefused::Harts);
         }
-        match Program::new(image, harts, watched, alloc) {
+        match Program::new(image, harts, watched, targets, alloc) {
             Ok(program) => Ok(Self::of(program, alloc)),
             Err(_) => Err(PlainRefused::Memory),
         }

@@ -1,11 +1,14 @@
 //! What a step of a hart comes to, by the numbers of parts: it is made once, and looked up from then on.
 
-ghost use Rattle.std.specs.Prelude.{◌≡◌, ◌<◌, IfOk, IfSome, length};
-ghost use Rattle.condensed_machine.specs.Machine.{Grows};
+ghost use Rattle.std.specs.Prelude.{◌≡◌, ◌<◌, IfOk, IfErr, IfSome, length};
+ghost use Rattle.searches.specs.Unmade.{MayBeUnmade};
+ghost use Rattle.condensed_machine.specs.Machine.{Grows, MayLack};
 ghost use Rattle.condensed_machine.specs.Moves.{IsMoveOf};
 
 use crate::machine::CondensedMachine;
 use crate::tables::{number_hart, number_shared};
+use live_registers::Jump;
+use searches::Unmade;
 use std::alloc::AllocError;
 
 /// Where a step begins: which hart makes it, the hart's number, and that of what the harts share.
@@ -25,13 +28,15 @@ pub(crate) struct MoveTo {
 }
 
 impl CondensedMachine {
-    /// What a hart's step comes to, be it noted or made now. Errors: want of memory.
-    pub(crate) fn move_from(&mut self, from: MoveFrom) -> Result<MoveTo, AllocError>
+    /// What a hart's step comes to, be it noted or made now. Errors: want of memory, or a jump by a register that the
+    /// table of targets lacks.
+    pub(crate) fn move_from(&mut self, from: MoveFrom) -> Result<MoveTo, Unmade<Jump>>
         requires hart { from.hart < self.old.program.harts }
         requires number { from.number < length self.old.hart_states }
         requires shared { from.shared < length self.old.shared_states }
         ensures grows { Grows self.old self.new }
         ensures is_move { IfOk result (IsMoveOf self.new from) }
+        ensures lacks { IfErr result (MayBeUnmade (MayLack self.new)) }
     {
         if let Some(to) = self.noted_move(from) {
             return Ok(to);
@@ -57,17 +62,23 @@ impl CondensedMachine {
         Ok(())
     }
 
-    /// Makes a hart's next instruction, whatever it is, and then its local steps. Errors: want of memory.
-    fn make_move(&mut self, from: MoveFrom) -> Result<MoveTo, AllocError>
+    /// Makes a hart's next instruction, whatever it is, and then its local steps. Errors: want of memory, or a jump by a
+    /// register that the table of targets lacks.
+    fn make_move(&mut self, from: MoveFrom) -> Result<MoveTo, Unmade<Jump>>
         requires hart { from.hart < self.old.program.harts }
         requires number { from.number < length self.old.hart_states }
         requires shared { from.shared < length self.old.shared_states }
         ensures grows { Grows self.old self.new }
         ensures is_move { IfOk result (IsMoveOf self.new from) }
+        ensures lacks { IfErr result (MayBeUnmade (MayLack self.new)) }
     {
         let mut own = *self.numbered_hart(from.number);
         let before = self.numbered_shared(from.shared);
+        let pc = own.pc;
         let executed = self.program.execute(before, from.hart, &mut own);
+        if let Some(jump) = self.program.lacking(pc, executed) {
+            return Err(Unmade::Lacks(jump));
+        }
         let way = self.program.come_to_rest(&mut own);
         let is_kept = self.program.keeps_reservation(&own);
         let number = number_hart(&mut self.hart_states, own)?;

@@ -1,24 +1,27 @@
 //! What is searched: a program, how many harts run it, and which of their registers matter.
 
-ghost use Rattle.std.specs.Prelude.{◌≡◌, ℕ, ◌<◌, ◌≤◌, IfOk, IfSome};
-ghost use Rattle.elf_image.specs.Image.{word_now};
+ghost use Rattle.std.specs.Prelude.{◌≡◌, ℕ, ◌<◌, ◌≤◌, true, false, not, IfOk, IfSome, is_some};
+ghost use Rattle.elf_image.specs.Image.{word_now, code_writable};
 ghost use Rattle.rv_instr.specs.Decode.{op_of_word};
 ghost use Rattle.rv_instr.specs.Table.{OpInRange};
 ghost use Rattle.changed_memory.specs.Shared.{byte_at};
 ghost use Rattle.numbers.specs.Sizes.{most_harts};
 ghost use Rattle.shared_memory.specs.Contents.{CanWrite, IsStart};
 ghost use Rattle.sc_machine.specs.Harts.{IsFirst};
-ghost use Rattle.condensed_machine.specs.Machine.{HasCode, IsSound};
+ghost use Rattle.outcome_laws.specs.Local.{keeps_to};
+ghost use Rattle.live_registers.specs.Targets.{allows};
+ghost use Rattle.condensed_machine.specs.Machine.{HasCode, IsLacking, IsSound};
 ghost use Rattle.condensed_machine.specs.Resting.{keeps_reservation};
 ghost use Rattle.condensed_machine.specs.Executing.{InEachState, IsExecuted, IsBehind, ComesToRest};
 
 use crate::executed::Executed;
+use crate::jumping::lacking;
 use crate::resting::{REGISTERS, rest};
 use crate::settling::settle;
 use changed_memory::SharedState;
 use decoded_code::Code;
 use elf_image::Image;
-use live_registers::LiveTable;
+use live_registers::{Jump, LiveTable, Targets};
 use rv_decode::decode_op;
 use rv_instr::Op;
 use sc_machine::{Hart, compute};
@@ -35,6 +38,8 @@ pub(crate) struct Program {
     writable: bool,
     /// Memory as the image has it.
     start: Memory,
+    /// Where jumps by registers go on: anywhere where the code may be written.
+    targets: Targets,
     live: LiveTable,
     watched: [bool; REGISTERS],
     harts: u8,
@@ -53,11 +58,12 @@ impl Model for Program {
 }
 
 impl Program {
-    /// The program of an image. Errors: want of memory.
+    /// The program of an image, and of where its jumps by registers go on. Errors: want of memory.
     pub(crate) fn new(
         image: &Image,
         harts: u8,
         watched: [bool; REGISTERS],
+        targets: Targets,
         alloc: Global,
     ) -> Result<Program, AllocError>
         requires some { 0 < harts }
@@ -65,15 +71,19 @@ impl Program {
         ensures image { IfOk result (λ program. program.image ≡ image.now) }
         ensures harts { IfOk result (λ program. program.harts ≡ harts) }
         ensures watched { IfOk result (λ program. program.watched ≡ watched) }
+        ensures anywhere { IfOk result (λ program. targets.anywhere ≡ true → program.targets.anywhere ≡ true) }
+        ensures targets { IfOk result (λ program. code_writable image.now ≡ false → program.targets ≡ targets) }
         ensures sound { IfOk result IsSound }
     {
         let code = Code::new(image, alloc)?;
-        let live = LiveTable::of(image, &code, alloc)?;
+        let targets = targets_of(image.code_writable(), targets, alloc);
+        let live = LiveTable::of(image, &code, &targets, alloc)?;
         let _ram = image.ram();
         Ok(Program {
             start: Memory::new(image, alloc)?,
             code,
             writable: image.code_writable(),
+            targets,
             live,
             watched,
             harts,
@@ -139,12 +149,21 @@ impl Program {
         }
     }
 
+    /// The jump by a register that an instruction made which was found at a pc, where the table of targets lacks it.
+    pub(crate) fn lacking(&self, pc: u32, executed: Executed) -> Option<Jump>
+        ensures lacks { is_some result
+            ≡ not (keeps_to (allows self.now.targets) executed.op pc executed.effect.next) }
+        ensures lacking { IfSome result (IsLacking self.now.targets) }
+    {
+        lacking(&self.targets, executed.op, pc, executed.effect.next)
+    }
+
     /// Follows a hart's local steps, and puts 0 into the registers that nobody reads again. Answers how many
     /// steps there were.
     pub(crate) fn come_to_rest(&self, state: &mut Hart) -> u16
         ensures { ComesToRest self.now state.old result state.new }
     {
-        let steps = settle(&self.start, &self.code, self.writable, state);
+        let steps = settle(&self.start, &self.code, &self.targets, self.writable, state);
         rest(&self.live, &self.watched, state);
         steps
     }
@@ -155,4 +174,16 @@ impl Program {
     {
         state.is_going() && self.live.is_kept(state.pc)
     }
+}
+
+/// Where jumps by registers go on: anywhere where the code may be written, as any word of it may become one.
+fn targets_of(writable: bool, targets: Targets, alloc: Global) -> Targets
+    ensures anywhere { targets.anywhere ≡ true → result.anywhere ≡ true }
+    ensures writable { writable ≡ true → result.anywhere ≡ true }
+    ensures fixed { writable ≡ false → result ≡ targets }
+{
+    if writable {
+        return Targets::anywhere(alloc);
+    }
+    targets
 }

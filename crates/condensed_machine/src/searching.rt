@@ -1,7 +1,7 @@
 use crate::machine::CondensedMachine;
 use crate::state::State;
-use searches::{Machine, Step};
-use std::alloc::AllocError;
+use live_registers::Jump;
+use searches::{Machine, Step, Unmade};
 
 impl Machine for CondensedMachine {
     ghost use Rattle.condensed_machine.specs.Decoded.{Knows as IsKnown};
@@ -9,13 +9,16 @@ impl Machine for CondensedMachine {
     ghost use Rattle.condensed_machine.specs.Learning.{learns_more as more_learned};
     ghost use Rattle.condensed_machine.specs.Learning.{same_harts as harts_stay};
     ghost use Rattle.condensed_machine.specs.Learning.{still_knows, still_true as steps_stay};
-    ghost use Rattle.condensed_machine.specs.Machine.{Grows as HasGrown};
+    ghost use Rattle.condensed_machine.specs.Machine.{Grows as HasGrown, MayLack as IsLacked};
     ghost use Rattle.condensed_machine.specs.Steps.{Steps as IsStep};
 
     type State = State;
 
     /// How many local steps of the hart followed.
     type Way = u16;
+
+    /// The jump by a register that the table of targets lacks.
+    type Lack = Jump;
 
     ghost harts = { λ m. m.program.harts };
 
@@ -25,11 +28,13 @@ impl Machine for CondensedMachine {
 
     ghost Grows = { HasGrown };
 
+    ghost MayLack = { IsLacked };
+
     fn harts(&self) -> u8 {
         self.program.harts()
     }
 
-    fn step(&mut self, state: State, hart: u8) -> Result<Option<Step<State, u16>>, AllocError> {
+    fn step(&mut self, state: State, hart: u8) -> Result<Option<Step<State, u16>>, Unmade<Jump>> {
         self.make_step(state, hart)
     }
 

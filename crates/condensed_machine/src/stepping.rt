@@ -1,8 +1,9 @@
 //! One step of a hart from a state.
 
-ghost use Rattle.std.specs.Prelude.{◌≡◌, ◌<◌, IfOk, IfSome};
+ghost use Rattle.std.specs.Prelude.{◌≡◌, ◌<◌, IfOk, IfErr, IfSome};
+ghost use Rattle.searches.specs.Unmade.{MayBeUnmade};
 ghost use Rattle.condensed_machine.specs.Decoded.{Knows};
-ghost use Rattle.condensed_machine.specs.Machine.{Grows, IsSound};
+ghost use Rattle.condensed_machine.specs.Machine.{Grows, IsSound, MayLack};
 ghost use Rattle.condensed_machine.specs.Numbering.{HasMoved};
 ghost use Rattle.condensed_machine.specs.Steps.{Steps};
 
@@ -10,22 +11,24 @@ use crate::machine::CondensedMachine;
 use crate::moves::{MoveFrom, MoveTo};
 use crate::numbering::moved;
 use crate::state::State;
-use searches::Step;
+use live_registers::Jump;
+use searches::{Step, Unmade};
 use std::alloc::AllocError;
 
 impl CondensedMachine {
     /// The next instruction of a hart in a state, whatever it is, and then its local steps; none where the
-    /// hart isn't going. Errors: want of memory.
+    /// hart isn't going. Errors: want of memory, or a jump by a register that the table of targets lacks.
     pub(crate) fn make_step(
         &mut self,
         state: State,
         hart: u8,
-    ) -> Result<Option<Step<State, u16>>, AllocError>
+    ) -> Result<Option<Step<State, u16>>, Unmade<Jump>>
         requires hart { hart < self.old.program.harts }
         requires known { Knows self.old state }
         ensures grows { Grows self.old self.new }
         ensures steps { IfOk result (Steps self.new state hart) }
         ensures knows { IfOk result (λ next. IfSome next (λ step. Knows self.new step.state)) }
+        ensures lacks { IfErr result (MayBeUnmade (MayLack self.new)) }
     {
         if !self.hart(state, hart).is_going() {
             return Ok(None);

@@ -1,7 +1,7 @@
-ghost use Rattle.std.specs.Prelude.{◌≡◌, ℕ};
-ghost use Rattle.outcome_laws.specs.Tables.{may_follow, may_follow_of};
+ghost use Rattle.std.specs.Prelude.{◌≡◌, ℕ, Bool};
+ghost use Rattle.rv_instr.specs.declared.op.Op.TheVariants.{Known};
 ghost use Rattle.smt_model.specs.Exec.{extended, next_pc};
-ghost use Rattle.live_registers.specs.Onward.{goes_on_at};
+ghost use Rattle.live_registers.specs.Onward.{goes, goes_on_at};
 
 use rv_instr::{Instr, Op};
 use rv_word::add;
@@ -15,13 +15,14 @@ pub enum Onward {
     At(u32),
     /// At one of these.
     AtEither(u32, u32),
-    Anywhere,
+    /// Where the table of targets says.
+    AsListed,
 }
 
 /// Where what was found at a pc may go on.
-#[tactic(auto, unfolding(outcome_laws::specs::Tables::may_follow))]
+#[tactic(auto, unfolding(outcome_laws::specs::Tables::may_follow, outcome_laws::specs::Tables::goes_anywhere))]
 pub fn onward_of(op: Op, pc: u32) -> Onward
-    ensures { (to : ℕ) → may_follow op pc to ≡ goes_on_at result to }
+    ensures { (targets : ℕ → ℕ → Bool) (to : ℕ) → goes targets op pc to ≡ goes_on_at targets pc result to }
 {
     match op {
         Op::Known(instr) => onward_of_instr(instr, pc),
@@ -30,12 +31,14 @@ pub fn onward_of(op: Op, pc: u32) -> Onward
 }
 
 /// Where an instruction at a pc may go on.
+#[tactic(auto, unfolding(outcome_laws::specs::Tables::may_follow, outcome_laws::specs::Tables::goes_anywhere))]
 fn onward_of_instr(instr: Instr, pc: u32) -> Onward
-    ensures { (to : ℕ) → may_follow_of instr pc to ≡ goes_on_at result to }
+    ensures { (targets : ℕ → ℕ → Bool) (to : ℕ)
+        → goes targets (Known instr) pc to ≡ goes_on_at targets pc result to }
 {
     match instr {
         Instr::Jal { offset, .. } => Onward::At(add(pc, extended(offset))),
-        Instr::Jalr { .. } => Onward::Anywhere,
+        Instr::Jalr { .. } => Onward::AsListed,
         Instr::Branch { offset, .. } => Onward::AtEither(add(pc, extended(offset)), behind(pc)),
         Instr::Lui { .. }
         | Instr::Auipc { .. }

@@ -1,5 +1,5 @@
 -- Every step fits tables that allow all; and a step that uses nothing is local.
-use Rattle.std.specs.Prelude.{◌≡◌, ℕ, ◌%◌, Bool, true, false, ◌==◌, ◌||◌, if◌then◌else◌, List, [], ◌∷◌}
+use Rattle.std.specs.Prelude.{◌≡◌, ℕ, ◌%◌, Bool, true, false, ◌==◌, ◌&&◌, ◌||◌, if◌then◌else◌, List, [], ◌∷◌}
 use Rattle.std.specs.Prelude.{Option, Some, None, option_map, unwrap_or, is_some}
 use Rattle.std.specs.List.{list_all}
 use Rattle.std.proofs.Common.{◌∙◌, refl, sym, ap, inl, inr, arith}
@@ -20,7 +20,8 @@ use Rattle.smt_model.specs.Plain.{Plain, read_register, op_at_pc, computes}
 use Rattle.outcome_laws.specs.Tables.{may_follow, may_follow_of, may_go, goes_anywhere, may_change}
 use Rattle.outcome_laws.specs.Tables.{Tables, AllowsAll, LiveAloneIsTables}
 use Rattle.outcome_laws.specs.Local.{Use, accesses, accesses_by, fetches, uses, goes_on_within, fits, is_apart}
-use Rattle.outcome_laws.specs.Local.{lacks_reservation, is_silent, SilentStepsAreLocal, EveryStepFits}
+use Rattle.outcome_laws.specs.Local.{lacks_reservation, is_silent, keeps_to, SilentStepsAreLocal, EveryStepFits}
+use Rattle.outcome_laws.specs.Local.{FitsByItsTarget}
 use Rattle.outcome_laws.proofs.Facts.{both_of, one_of_two, neither, none_put, either_left, either_right}
 
 -- ---- Where an instruction goes on
@@ -165,6 +166,28 @@ every_step_fits setup tables allows h s =
     (goes_on_within setup.image tables (op_at_pc setup s h) (s.pcs h) (computes setup s h).next)
     (always may (uses setup tables h s) (λ u. allows.ahead h (s.pcs h) u.what u.writes))
     (within setup.image tables allows (op_at_pc setup s h) (s.pcs h) (computes setup s h).next (follows setup s h))
+
+-- Where the code may not change, each but JALR goes on where the code says.
+kept_within : (image : ProgramImage) (tables : Tables) (op : Op) (pc : ℕ) (next : Next)
+    → may_change image tables pc ≡ false → ((to : ℕ) → next ≡ Pc to → may_follow op pc to ≡ true)
+    → goes_on_within image tables op pc next ≡ keeps_to tables.targets op pc next
+kept_within image tables op pc (Pc to) stays follows =
+    elim (cases_Bool (goes_anywhere op)) [
+      | inl any ↦ rw (stays, any) refl
+      | inr known ↦ rw (stays, known) (follows to refl)
+    ]
+kept_within image tables op pc (Ended n) stays follows = refl
+kept_within image tables op pc (Stopped cause) stays follows = refl
+
+pub fits_by_its_target : FitsByItsTarget
+fits_by_its_target setup tables h s stays ahead =
+    let op = op_at_pc setup s h in
+    let next = (computes setup s h).next in
+    let may = λ (u : Use). tables.ahead h (s.pcs h) u.what u.writes in
+    let used : list_all may (uses setup tables h s) ≡ true =
+    always may (uses setup tables h s) (λ u. ahead h (s.pcs h) u.what u.writes) in
+    ap (λ b. b && goes_on_within setup.image tables op (s.pcs h) next) used
+    ∙ kept_within setup.image tables op (s.pcs h) next stays (follows setup s h)
 
 pub live_alone_is_tables : LiveAloneIsTables
 live_alone_is_tables image live good = record {

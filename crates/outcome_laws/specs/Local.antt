@@ -13,6 +13,7 @@ use Rattle.smt_model.specs.Kinds.{touches_memory}
 use Rattle.smt_model.specs.Plain.{Plain, op_at_pc, computes, is_going_status}
 use Rattle.outcome_laws.specs.Paths.{can_step, stepped}
 use Rattle.outcome_laws.specs.Tables.{Tables, IsTables, AllowsAll, IsAsCoded, may_go, may_change, is_conditional}
+use Rattle.outcome_laws.specs.Tables.{goes_anywhere}
 
 -- ---- What an instruction uses
 
@@ -137,3 +138,17 @@ SilentStepsAreLocal = (setup : Setup) (tables : Tables) (h : ℕ) (s : Plain)
 abbrev pub EveryStepFits : Type 0
 EveryStepFits = (setup : Setup) (tables : Tables) → AllowsAll tables → (h : ℕ) (s : Plain)
     → fits setup tables h s ≡ true
+
+-- JALR at `pc` goes on only where the table of targets says; every other instruction, and one that is the last, does so
+-- whatever it says.
+abbrev pub keeps_to : (ℕ → ℕ → Bool) → Op → ℕ → Next → Bool
+keeps_to targets op pc (Pc to) = not (goes_anywhere op) || targets pc to
+keeps_to targets op pc next = true
+
+-- Where the code may not change, and each hart may touch anything, that is whether a step fits.
+abbrev pub FitsByItsTarget : Type 0
+FitsByItsTarget = (setup : Setup) (tables : Tables) (h : ℕ) (s : Plain)
+    → may_change setup.image tables (s.pcs h) ≡ false
+    → ((g pc what : ℕ) (writes : Bool) → tables.ahead g pc what writes ≡ true)
+    → fits setup tables h s
+    ≡ keeps_to tables.targets (op_at_pc setup s h) (s.pcs h) (computes setup s h).next

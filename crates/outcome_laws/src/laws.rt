@@ -3,6 +3,7 @@
 ghost use Rattle.outcome_laws.specs.Paths.{PathsKeepCode, RunsArePaths};
 ghost use Rattle.outcome_laws.specs.Tables.{StartsAsCoded, HoldsAsCoded, LiveAloneIsTables};
 ghost use Rattle.outcome_laws.specs.Local.{FitsOnItsOwn, LocalStepsCommute, EveryStepFits, SilentStepsAreLocal};
+ghost use Rattle.outcome_laws.specs.Local.{FitsByItsTarget};
 ghost use Rattle.outcome_laws.specs.Live.{AlikeStatesStepAlike};
 ghost use Rattle.outcome_laws.specs.Search.{EachSettles, EachMemoryIsVisited, EveryEndIsVisited};
 ghost use Rattle.outcome_laws.specs.Search.{WhatSettlesIsReached, NoEndIsReached, EachCanEnd};
@@ -29,11 +30,13 @@ pub fn local_steps_commute()
 {}
 
 /// Tables that know nothing but which registers are live are good if that is, and allow all; every step
-/// fits tables that allow all; and where the code may not change, a step that fits is local if it neither
-/// touches memory nor puts a byte out, or is a store-conditional without a reservation.
+/// fits tables that allow all; where each hart may touch anything and the code may not change, a step fits
+/// unless it jumps by a register to where the table has no jump; and where the code may not change, a step that
+/// fits is local if it neither touches memory nor puts a byte out, or is a store-conditional without a reservation.
 pub fn steps_fit_what_allows_all()
     ensures tables { LiveAloneIsTables }
     ensures fits { EveryStepFits }
+    ensures target { FitsByItsTarget }
     ensures silent { SilentStepsAreLocal }
 {}
 
