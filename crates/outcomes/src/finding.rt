@@ -63,7 +63,7 @@ pub fn find_outcomes<O: Onlooker, U: Until>(
         return Err(OutcomesRefused::Memory);
     };
     for _pass in 0..MOST_PASSES {
-        let Ok(seen) = targets.copy(alloc) else {
+        let Ok(seen) = copy_of(&targets, alloc) else {
             return Err(OutcomesRefused::Memory);
         };
         match find_within(image, harts, watch, budget, onlooker, until, seen, alloc) {
@@ -77,6 +77,17 @@ pub fn find_outcomes<O: Onlooker, U: Until>(
         }
     }
     find_anywhere(image, harts, watch, budget, onlooker, until, alloc)
+}
+
+/// The same targets. Errors: want of memory.
+fn copy_of(targets: &Targets, alloc: Global) -> Result<Targets, AllocError>
+    ensures anywhere { IfOk result (λ copy. copy.anywhere ≡ targets.now.anywhere) }
+    ensures jumps { IfOk result (λ copy. copy.jumps.items ≡ targets.now.jumps.items) }
+{
+    Ok(Targets {
+        anywhere: targets.anywhere,
+        jumps: Vec::from_slice(alloc, targets.jumps.as_slice())?,
+    })
 }
 
 /// The outcomes of a program whose harts may jump anywhere by registers: in one pass.
