@@ -1,10 +1,12 @@
 -- What one instruction of a hart comes to in a state in which it is hart h.
-use Rattle.std.proofs.Common.{◌≡◌, ℕ, ◌<◌, Bool, true, false, refl, sym, ap, subst, ◌∙◌, arith}
-use Rattle.std.specs.Prelude.{◌&&◌, ◌==◌, not, nat_lt, if◌then◌else◌, slice_index}
-use Rattle.std.proofs.{lemmas.Bool.Decides.nat_tests, Math.Path.fun_ext}
+use Rattle.std.proofs.Common.{◌≡◌, ℕ, ◌<◌, Bool, true, false, refl, sym, ap, subst, ◌∙◌, arith, inl, inr}
+use Rattle.std.specs.Prelude.{◌&&◌, ◌||◌, ◌==◌, not, nat_lt, if◌then◌else◌, slice_index, Option, None, is_some}
+use Rattle.std.specs.List.{list_any}
+use Rattle.std.proofs.{lemmas.Bool.cases_Bool, lemmas.Bool.Decides.nat_tests, Math.Path.fun_ext}
 use Rattle.elf_image.specs.Image.{code_writable, word_now}
 use Rattle.rv_instr.specs.{Decode.op_of_word, Table.OpInRange}
-use Rattle.smt_model.specs.Words.{Op, Effect}
+use Rattle.smt_model.specs.Words.{Op, Effect, Next}
+use Rattle.smt_laws.proofs.Registers.Reading.{effect-next}
 use Rattle.smt_model.specs.{Setup.Setup, Exec.Computed, Nexts.pc_after, Kinds.destination, Bytes.byte_after}
 use Rattle.smt_model.specs.{Bytes.read, Effects.effect_of, Reservations.holds_word}
 use Rattle.smt_model.specs.Plain.{Plain, after, op_at_pc, computes, effect_at, is_going_status, status_after}
@@ -12,24 +14,32 @@ use Rattle.smt_model.specs.Plain.{output_after, register_after, word_at_pc}
 use Rattle.rv_instr.specs.Registers.{op_rd}
 use Rattle.rv_instr.proofs.DecodedLemmas.{op_of_word_in_range, op_rd_below}
 use Rattle.outcome_laws.specs.{Paths.can_step, Paths.stepped, Local.is_silent, Local.is_local, Local.lacks_reservation}
-use Rattle.outcome_laws.specs.Tables.{Tables, AllowsAll}
+use Rattle.outcome_laws.specs.{Local.fits, Local.keeps_to, Tables.Tables, Tables.AllowsAll}
 use Rattle.outcome_laws.proofs.Facts.{either_left}
 use Rattle.outcome_laws.proofs.Silent.{IsQuiet, silent_step}
-use Rattle.outcome_laws.proofs.Fitting.{every_step_fits, silent_steps_are_local}
+use Rattle.outcome_laws.proofs.Fitting.{every_step_fits, fits_by_its_target, silent_steps_are_local}
+use Rattle.live_registers.specs.{Targets.allows, Targets.is_jump, declared.targets.Targets.Targets}
 use Rattle.sc_machine.specs.{Harts.HartAgrees, Harts.register_written, declared.hart.Hart.Hart}
 use Rattle.sc_machine.proofs.Harts.{own_hart}
 use Rattle.sc_machine.specs.Here.{computed_here}
 use Rattle.shared_memory.specs.Contents.{Contents}
 use Rattle.changed_memory.specs.Shared.{Shared, byte_at, reserved_at}
-use Rattle.condensed_machine.specs.Settling.{HartsStay, OthersStay, GoesOn, is_followed}
-use Rattle.condensed_machine.specs.{Machine.Program, Machine.tables_of}
+use Rattle.condensed_machine.specs.Settling.{HartsStay, OthersStay, GoesOn, HasTargets, is_followed}
+use Rattle.condensed_machine.specs.{Machine.Program, Machine.tables_of, Machine.IsSound}
 use Rattle.condensed_machine.specs.Executing.{SharedAgrees, IsExecuted}
 use Rattle.condensed_machine.specs.declared.executed.Executed.{Executed}
 use Rattle.condensed_machine.proofs.Finding.{below, computed_same, shared_same}
 
--- The tables of a program allow all.
-pub allows_all : (p : Program) → AllowsAll (tables_of p)
-allows_all p = record { targets = λ pc to. refl; ahead = λ h pc what writes. refl }
+-- By the tables of a program jumps by registers go on where its targets say; where those say anywhere, the tables
+-- allow all.
+pub has_targets : (p : Program) → HasTargets p.targets (tables_of p)
+has_targets p = record { targets_are = refl; ahead = λ h pc what writes. refl }
+
+allows_all : (p : Program) → p.targets.anywhere ≡ true → AllowsAll (tables_of p)
+allows_all p anywhere = record {
+  targets = λ pc to. ap (λ b. b || list_any (is_jump pc to) p.targets.jumps.items) anywhere;
+  ahead = λ h pc what writes. refl;
+}
 
 pub both : (a b : Bool) → a ≡ true → b ≡ true → (a && b) ≡ true
 both a b first second = rw (first, second) refl
@@ -48,26 +58,19 @@ pub second_no : (a b : Bool) → b ≡ false → (a && b) ≡ false
 second_no true b off = off
 second_no false b off = refl
 
--- No step of a hart is followed that doesn't go, or whose next step touches memory or puts a byte out.
-pub stands_over : (setup : Setup) (s : Plain) (h : ℕ) (x : Hart) → HartAgrees s h x
-    → is_going_status x.status ≡ false → (can_step setup h s && is_followed setup h s) ≡ false
-stands_over setup s h x is over =
-    either_no (nat_lt h setup.harts) (is_going_status (s.statuses h)) (is_followed setup h s)
+-- No step of a hart is followed that doesn't go.
+pub stands_over : (setup : Setup) (tables : Tables) (s : Plain) (h : ℕ) (x : Hart) → HartAgrees s h x
+    → is_going_status x.status ≡ false → (can_step setup h s && is_followed setup tables h s) ≡ false
+stands_over setup tables s h x is over =
+    either_no (nat_lt h setup.harts) (is_going_status (s.statuses h)) (is_followed setup tables h s)
     (ap is_going_status (sym is.status) ∙ over)
 
-pub stands_at : (setup : Setup) (s : Plain) (h : ℕ) (op : Op) (c : Computed) → op ≡ op_at_pc setup s h
-    → c ≡ computes setup s h → is_silent op c ≡ false → (can_step setup h s && is_followed setup h s) ≡ false
-stands_at setup s h op c of_op of_computed seen =
-    second_no (can_step setup h s) (is_followed setup h s)
-    (second_no (not (code_writable setup.image)) (is_silent (op_at_pc setup s h) (computes setup s h))
-    (ap (λ o. is_silent o (computes setup s h)) (sym of_op) ∙ ap (is_silent op) (sym of_computed) ∙ seen))
-
 -- Where the code may be written no step is followed.
-pub stands_written : (setup : Setup) (s : Plain) (h : ℕ) → code_writable setup.image ≡ true
-    → (can_step setup h s && is_followed setup h s) ≡ false
-stands_written setup s h writable =
-    second_no (can_step setup h s) (is_followed setup h s)
-    (ap (λ b. not b && is_silent (op_at_pc setup s h) (computes setup s h)) writable)
+pub stands_written : (setup : Setup) (tables : Tables) (s : Plain) (h : ℕ) → code_writable setup.image ≡ true
+    → (can_step setup h s && is_followed setup tables h s) ≡ false
+stands_written setup tables s h writable =
+    second_no (can_step setup h s) (is_followed setup tables h s)
+    (ap (λ b. not b && (is_silent (op_at_pc setup s h) (computes setup s h) && fits setup tables h s)) writable)
 
 -- The state behind an instruction, told by what was executed.
 pub after_same : (setup : Setup) (s : Plain) (h : ℕ) (op : Op) (addr : ℕ) (e : Effect) → op ≡ op_at_pc setup s h
@@ -129,29 +132,61 @@ module _ (setup : Setup) (s : Plain) (h : ℕ) (op : Op) (c : Computed) (e : Eff
       ∙ ap (λ (d : Computed). effect_of (op_at_pc setup s h) d (read (op_at_pc setup s h) s.bytes d.addr)
       (holds_word (s.reserved h) d.addr)) of_computed
 
+  silent_same : is_silent (op_at_pc setup s h) (computes setup s h) ≡ is_silent op c
+  silent_same = ap (λ o. is_silent o (computes setup s h)) (sym of_op) ∙ ap (is_silent op) (sym of_computed)
+
+  -- Where the code may not be written, a step fits by where it goes on.
+  fits_same : (targets : Targets) (tables : Tables) (pc : ℕ) → HasTargets targets tables
+      → code_writable setup.image ≡ false → pc ≡ s.pcs h
+      → fits setup tables h s ≡ keeps_to (allows targets) op pc c.next
+  fits_same targets tables pc has fixed at =
+      fits_by_its_target setup tables h s (second_no (tables.rewritten (s.pcs h)) (code_writable setup.image) fixed)
+      has.ahead
+      ∙ ap (λ t. keeps_to t (op_at_pc setup s h) (s.pcs h) (computes setup s h).next) has.targets_are
+      ∙ ap (λ o. keeps_to (allows targets) o (s.pcs h) (computes setup s h).next) (sym of_op)
+      ∙ ap (λ n. keeps_to (allows targets) op n (computes setup s h).next) (sym at)
+      ∙ ap (λ (d : Computed). keeps_to (allows targets) op pc d.next) (sym of_computed)
+
+  -- No step is followed that touches memory, or puts a byte out, or doesn't fit.
+  pub stands_at : (targets : Targets) (tables : Tables) (pc : ℕ) → HasTargets targets tables
+      → code_writable setup.image ≡ false → pc ≡ s.pcs h
+      → (is_silent op c && keeps_to (allows targets) op pc c.next) ≡ false
+      → (can_step setup h s && is_followed setup tables h s) ≡ false
+  stands_at targets tables pc has fixed at seen =
+      second_no (can_step setup h s) (is_followed setup tables h s)
+      (second_no (not (code_writable setup.image))
+      (is_silent (op_at_pc setup s h) (computes setup s h) && fits setup tables h s)
+      (ap (λ b. b && fits setup tables h s) silent_same
+      ∙ ap (λ b. is_silent op c && b) (fits_same targets tables pc has fixed at) ∙ seen))
+
   -- A step that is followed is local.
-  followed_is_local : (tables : Tables) → AllowsAll tables → code_writable setup.image ≡ false → is_silent op c ≡ true
-      → is_local setup tables h s ≡ true
-  followed_is_local tables allows fixed silent =
-      let now : is_silent (op_at_pc setup s h) (computes setup s h) ≡ true =
-      ap (λ o. is_silent o (computes setup s h)) (sym of_op) ∙ ap (is_silent op) (sym of_computed) ∙ silent in
+  followed_is_local : (targets : Targets) (tables : Tables) (pc : ℕ) → HasTargets targets tables
+      → code_writable setup.image ≡ false → pc ≡ s.pcs h → is_silent op c ≡ true
+      → keeps_to (allows targets) op pc c.next ≡ true → is_local setup tables h s ≡ true
+  followed_is_local targets tables pc has fixed at silent keeps =
       silent_steps_are_local setup tables h s
       (second_no (tables.rewritten (s.pcs h)) (code_writable setup.image) fixed)
-      (either_left (is_silent (op_at_pc setup s h) (computes setup s h)) (lacks_reservation setup h s) now)
-      (every_step_fits setup tables allows h s)
+      (either_left (is_silent (op_at_pc setup s h) (computes setup s h)) (lacks_reservation setup h s)
+      (silent_same ∙ silent))
+      (fits_same targets tables pc has fixed at ∙ keeps)
 
-  pub goes_by_one : (tables : Tables) (x y : Hart) → AllowsAll tables → code_writable setup.image ≡ false
-      → h < setup.harts → HartAgrees s h x → is_going_status x.status ≡ true → is_silent op c ≡ true
+  pub goes_by_one : (targets : Targets) (tables : Tables) (x y : Hart) → HasTargets targets tables
+      → code_writable setup.image ≡ false → h < setup.harts → HartAgrees s h x → is_going_status x.status ≡ true
+      → is_silent op c ≡ true → keeps_to (allows targets) op x.pc c.next ≡ true
       → ((now : ℕ) (held : Bool) → e ≡ effect_of op c now held) → HasAdvanced op e x y
       → GoesOn setup tables h 1 s y
-  goes_by_one tables x y allows fixed inside is going silent effect advanced =
+  goes_by_one targets tables x y has fixed inside is going silent keeps effect advanced =
       let same = after_same setup s h op c.addr e of_op (ap (λ (d : Computed). d.addr) of_computed)
       (effect_same (effect (read op s.bytes c.addr) (holds_word (s.reserved h) c.addr))) in
       let quiet : IsQuiet op c.addr e =
       subst (IsQuiet op c.addr) (sym (effect 0 false)) ((silent_step op c silent).quiet c.addr 0 false) in
       record {
         there = stepped setup h s;
-        local = (can_go setup s h x inside is going, followed_is_local tables allows fixed silent, refl);
+        local = (
+          can_go setup s h x inside is going,
+          followed_is_local targets tables x.pc has fixed is.pc silent keeps,
+          refl,
+        );
         agrees = hart_behind setup s h op c.addr e x y is advanced same;
         others = subst (OthersStay h s) same (quiet_stays s h op c.addr e
             (subst (λ o. destination o < 32) (sym of_op) (written_below setup s h)) quiet);
@@ -182,3 +217,33 @@ pub is_behind : (setup : Setup) (s : Plain) (h : ℕ) (e : Executed) (x y : Hart
 is_behind setup s h e x y is advanced executed =
     hart_behind setup s h e.op e.addr e.effect x y is advanced
     (after_same setup s h e.op e.addr e.effect executed.op executed.addr executed.effect)
+
+-- ---- Whether it fits
+
+-- Of a jump that isn't lacking.
+pub keeps_where_none : {A : Type 0} → (lacking : Option A) (keeps : Bool) → is_some lacking ≡ not keeps → lacking ≡ None
+    → keeps ≡ true
+keeps_where_none lacking true says none = refl
+keeps_where_none lacking false says none = absurd (some_is_none (ap is_some (sym none) ∙ says))
+  where
+    some_is_none : false ≡ true → ⊥
+    some_is_none same = absurd (grind arith)
+
+-- An instruction fits a program's tables where it goes on as they say; and any does where the code may be written.
+pub fits_noted : (p : Program) (setup : Setup) (s : Plain) (h : ℕ) (x : Hart) (e : Executed) → IsSound p
+    → setup.image ≡ p.image → HartAgrees s h x → IsExecuted setup s h e
+    → keeps_to (allows p.targets) e.op x.pc e.effect.next ≡ true → fits setup (tables_of p) h s ≡ true
+fits_noted p setup s h x e sound image is executed keeps =
+    elim (cases_Bool (code_writable p.image)) [
+      | inl written ↦ every_step_fits setup (tables_of p) (allows_all p (sound.writable written)) h s
+      | inr fixed ↦
+          let op = op_at_pc setup s h in
+          let c = computes setup s h in
+          let next : e.effect.next ≡ c.next =
+          ap (λ (it : Effect). it.next) executed.effect
+          ∙ effect-next op c (read op s.bytes c.addr) (holds_word (s.reserved h) c.addr) in
+          fits_by_its_target setup (tables_of p) h s (ap code_writable image ∙ fixed) (λ g pc what writes. refl)
+          ∙ ap (λ o. keeps_to (allows p.targets) o (s.pcs h) c.next) (sym executed.op)
+          ∙ ap (λ pc. keeps_to (allows p.targets) e.op pc c.next) (sym is.pc)
+          ∙ ap (λ (n : Next). keeps_to (allows p.targets) e.op x.pc n) (sym next) ∙ keeps
+    ]

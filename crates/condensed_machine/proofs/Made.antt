@@ -6,8 +6,7 @@ use Rattle.std.proofs.lemmas.Bool.{cases_eq}
 use Rattle.std.proofs.lemmas.List.{get_or-set_other, get_or-set_same, length-set}
 use Rattle.std.proofs.lemmas.Option.{get_or_from_slice_get, slice_get_within}
 use Rattle.smt_model.specs.{Setup.Setup, Plain.is_going_status}
-use Rattle.outcome_laws.specs.{Paths.can_step, Paths.stepped}
-use Rattle.outcome_laws.proofs.Fitting.{every_step_fits}
+use Rattle.outcome_laws.specs.{Paths.can_step, Paths.stepped, Local.fits}
 use Rattle.sc_machine.specs.declared.hart.Hart.{Hart}
 use Rattle.changed_memory.specs.Shared.{Shared}
 use Rattle.condensed_machine.specs.Machine.{Program, IsSound, tables_of, Machine, Grows, HasCode, InEachSetup}
@@ -17,8 +16,8 @@ use Rattle.condensed_machine.specs.Executing.{IsExecuted, IsBehind, ComesToRest,
 use Rattle.condensed_machine.specs.{Tables.HasNumber, Tables.IsSharedAfter, Steps.SettlesBy, Steps.MakesStep}
 use Rattle.condensed_machine.specs.{Resting.keeps_reservation, declared.executed.Executed.Executed}
 use Rattle.condensed_machine.specs.{declared.state.State.State}
-use Rattle.condensed_machine.proofs.{Instructions.can_go, Instructions.allows_all}
-use Rattle.condensed_machine.proofs.Moving.{IsNext, settles_by, hart_is}
+use Rattle.condensed_machine.proofs.{Instructions.can_go}
+use Rattle.condensed_machine.proofs.Moving.{IsNext, settles_by, hart_is, shared_is}
 use Rattle.condensed_machine.specs.Learning.{still_decoded, still_numbered, kept_within}
 use Rattle.condensed_machine.proofs.Numbers.{own_number, other_number}
 
@@ -34,6 +33,7 @@ pub record HasDone (m n : Machine) (s t : State) (h steps : ℕ) (x : Hart) (com
   pub number : ℕ
   pub executed : InEachState m.program h x common (λ setup u. IsExecuted setup u h done)
   pub is_behind : InEachState m.program h x common (λ setup u. IsBehind setup u h behind)
+  pub fitting : InEachState m.program h x common (λ setup u. fits setup (tables_of m.program) h u ≡ true)
   pub rests : ComesToRest m.program behind steps moved
   pub has : HasNumber n.hart_states moved number
   pub numbered : numbers_of n t ≡ slice_set (numbers_of m s) h number
@@ -83,7 +83,7 @@ module _ (m n : Machine) (s t : State) (h steps : ℕ) (sound : IsSound m.progra
 
   abbrev Makes : Setup → Program → Decoded → Type 0
   Makes setup p d =
-      (can_step setup h (full p d) ≡ true)
+      (can_step setup h (full p d) ≡ true) × (fits setup (tables_of p) h (full p d) ≡ true)
       × SettlesBy setup p (replicate steps h) (stepped setup h (full p d)) (full p (decoded n t))
 
   makes : (setup : Setup) → setup.image ≡ m.program.image → setup.harts ≡ m.program.harts
@@ -92,6 +92,8 @@ module _ (m n : Machine) (s t : State) (h steps : ℕ) (sound : IsSound m.progra
       let there : h < setup.harts = omega (arith, harts) in (
         can_go setup (full m.program (decoded m s)) h (hart_in m s h) there
             (hart_is m.program (decoded m s) h inside moved.zero) moved.going,
+        moved.fitting setup (full m.program (decoded m s)) image there
+            (hart_is m.program (decoded m s) h inside moved.zero) (shared_is m.program (decoded m s)),
         settles_by m.program (decoded m s) (decoded n t) h steps moved.done moved.moved sound inside moved.zero
             moved.code next setup image harts,
       )
@@ -104,8 +106,8 @@ module _ (m n : Machine) (s t : State) (h steps : ℕ) (sound : IsSound m.progra
       (subst (λ d. Makes setup m.program d) (sym (still_decoded m n s grows knows)) now) in
       record {
         can = then.0;
-        fits = every_step_fits setup (tables_of n.program) (allows_all n.program) h (state_of n s);
-        leads = then.1;
+        fits = then.1;
+        leads = then.2;
       }
 
   pub known : Knows n t

@@ -20,7 +20,7 @@ use Rattle.condensed_machine.specs.declared.executed.Executed.{Executed}
 use Rattle.condensed_machine.proofs.Coded.{code_in}
 use Rattle.condensed_machine.proofs.Alike.{IsKeptAs, alike_by_harts, register_in, full_beyond, still_beyond}
 use Rattle.condensed_machine.proofs.Alike.{rests_as, stays_as, full_as}
-use Rattle.condensed_machine.proofs.Instructions.{after_same, harts_after, written_below, allows_all}
+use Rattle.condensed_machine.proofs.Instructions.{after_same, harts_after, written_below, has_targets}
 use Rattle.condensed_machine.proofs.Instructions.{second_no}
 
 inside_test : (h harts : ℕ) → h < harts → nat_lt h harts ≡ true
@@ -106,7 +106,7 @@ module _ (p : Program) (d e : Decoded) (h steps : ℕ) (done : Executed) (y : Ha
 
   goes : GoesOn setup (tables_of p) h steps behind next.rests.moved
   goes =
-      next.rests.settles.leads setup (tables_of p) h behind (allows_all p) image there holds
+      next.rests.settles.leads setup (tables_of p) h behind (has_targets p) image there holds
       (next.is_behind setup (full p d) image there (hart_is p d h inside zero) (shared_is p d))
 
   abbrev keeps : Bool

@@ -47,6 +47,7 @@ module _ (p : Program) (old new : List Hart) (before now : List Shared) (keeps :
     moved = move.moved;
     executed = move.executed;
     is_behind = move.is_behind;
+    fitting = move.fitting;
     rests = move.rests;
     has = keeps to.number move.moved move.has;
     after = after_stays from.hart from to move;
@@ -158,6 +159,7 @@ module _ (m k n : Machine) (s t : State) (h : ℕ) (from : MoveFrom) (to : MoveT
     number = to.number;
     executed = move.executed;
     is_behind = move.is_behind;
+    fitting = move.fitting;
     rests = move.rests;
     has = second.hart_states to.number move.moved move.has;
     numbered = numbered.numbers_are ∙ ap (λ g. slice_set (numbers_of k s) g to.number) (sym of_hart);

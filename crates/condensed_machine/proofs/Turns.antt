@@ -20,7 +20,7 @@ use Rattle.condensed_machine.specs.Beginning.{HaveBegun}
 use Rattle.condensed_machine.specs.Decoded.{Decoded, full, hart_at}
 use Rattle.condensed_machine.proofs.Alike.{IsKeptAs, IsFirstBeyond, alike_by_harts, register_absent}
 use Rattle.condensed_machine.proofs.Alike.{still_beyond, rests_as}
-use Rattle.condensed_machine.proofs.{Following.paths_join, Following.agrees_still, Instructions.allows_all}
+use Rattle.condensed_machine.proofs.{Following.paths_join, Following.agrees_still, Instructions.has_targets}
 
 first_reads : (r n : ℕ) → (r ≡ 0 → n ≡ 0) → n ≡ (if r == 0 then 0 else n)
 first_reads r n at_zero = grind (arith, nat_tests)
@@ -90,7 +90,7 @@ module _ (p : Program) (table : List Hart) (ways numbers : List ℕ) (setup : Se
       let own = begun h inside in
       let there : h < setup.harts = omega (arith, harts) in
       let goes : GoesOn setup (tables_of p) h (slice_index ways h) now.there own.rests.moved =
-      own.rests.settles.leads setup (tables_of p) h now.there (allows_all p) image there
+      own.rests.settles.leads setup (tables_of p) h now.there (has_targets p) image there
       (has_local setup (tables_of p) (turns ways h) (start setup) now.there (paths_keep_code setup).0 now.local)
       (first_agrees h now own.first own.is_first) in
       record {

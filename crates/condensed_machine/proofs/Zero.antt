@@ -8,7 +8,7 @@ use Rattle.sc_machine.specs.{Harts.HartAgrees, declared.hart.Hart.Hart}
 use Rattle.changed_memory.specs.Shared.{Shared, byte_at, reserved_at}
 use Rattle.condensed_machine.specs.{Machine.Program, Machine.tables_of, Executing.ComesToRest}
 use Rattle.condensed_machine.specs.Executing.{InEachState, IsBehind, SharedAgrees}
-use Rattle.condensed_machine.proofs.Instructions.{allows_all}
+use Rattle.condensed_machine.proofs.Instructions.{has_targets}
 
 -- A setup with an image, and a state in which hart 0 is x.
 abbrev some_setup : ProgramImage → ℕ → Setup
@@ -53,7 +53,7 @@ zero_rests p x y steps rests zero =
     let none : Shared = record { changes = []; reserved = []; output = [] } in
     let inside : 0 < 1 = omega arith in
     let goes =
-    rests.settles.leads (some_setup p.image 0) (tables_of p) 0 (some_state p.image x none) (allows_all p) refl inside
+    rests.settles.leads (some_setup p.image 0) (tables_of p) 0 (some_state p.image x none) (has_targets p) refl inside
     (λ fixed pc. refl)
     (some_agrees p.image x none 0 zero) in
     rests.rested.zero ∙ goes.agrees.registers 0 (omega arith)

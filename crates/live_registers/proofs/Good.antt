@@ -17,9 +17,9 @@ use Rattle.rv_instr.proofs.DecodedLemmas.{op_rs1_below, op_rs2_below}
 use Rattle.decoded_code.specs.Code.{IsCodeOf, IsFound, found_at}
 use Rattle.decoded_code.proofs.Fetching.{found}
 use Rattle.decoded_code.specs.declared.code.{Code.Code, Fetched.Fetched}
-use Rattle.outcome_laws.specs.Tables.{op_at, reads_register, may_follow, may_go, IsLiveTable, IsKeptTable}
+use Rattle.outcome_laws.specs.Tables.{op_at, reads_register, may_follow, may_go, goes_anywhere, IsLiveTable, IsKeptTable}
 use Rattle.outcome_laws.specs.Tables.{is_conditional, replaces_reservation}
-use Rattle.outcome_laws.proofs.Fitting.{follows_where_it_goes}
+use Rattle.live_registers.specs.{Targets.allows, Onward.goes, declared.targets.Targets.Targets}
 use Rattle.live_registers.specs.declared.table.{LiveTable.LiveTable, Row.Row}
 use Rattle.live_registers.specs.Table.{all_alike, row_at, live_in, live_of, kept_in, kept_of}
 use Rattle.live_registers.specs.Table.{IsAllAlike, IsTableOf, IsOfCode, IsGoodRow, IsKeptRow, AreGoodBelow}
@@ -38,9 +38,9 @@ nothing_read : (r : ℕ) → r ≢ 0 → reads_register NoWord r ≡ true → �
 unfolding first_source second_source op_rs1 op_rs2
 nothing_read r some reads = absurd (grind (arith, nat_tests))
 
-nowhere : (pc to : ℕ) → may_follow NoWord pc to ≡ true → ⊥
-unfolding may_follow
-nowhere pc to follows = absurd (grind arith)
+nowhere : (targets : ℕ → ℕ → Bool) (pc to : ℕ) → goes targets NoWord pc to ≡ true → ⊥
+unfolding may_follow goes_anywhere
+nowhere targets pc to follows = absurd (grind arith)
 
 no_conditional : is_conditional (kind_of NoWord) ≡ true → ⊥
 unfolding kind_of
@@ -82,21 +82,21 @@ pc_of : (start pc : ℕ) → (nat_le start pc && ((pc - start) % 4 == 0)) ≡ tr
 pc_of start pc test = grind (arith, nat_tests)
 
 -- The row at the pc of a word of the code is there, and good.
-record HasRow (table : LiveTable) (op : Op) (pc : ℕ) : Type 0 where
+record HasRow (targets : Targets) (table : LiveTable) (op : Op) (pc : ℕ) : Type 0 where
   row : Row
   at : row_at table pc ≡ Some row
-  good : IsGoodRow table op pc row
-  kept : IsKeptRow table op pc row
+  good : IsGoodRow targets table op pc row
+  kept : IsKeptRow targets table op pc row
 
 row_there : (start begin pc : ℕ) (rows : List Row) (row : Row) → begin ≡ start
     → (nat_le start pc && ((pc - start) % 4 == 0)) ≡ true → slice_get rows ((pc - start) / 4) ≡ Some row
     → (if nat_le begin pc && ((pc - begin) % 4 == 0) then slice_get rows ((pc - begin) / 4) else None) ≡ Some row
 row_there start begin pc rows row same test got = rw (same, test) got
 
-has_row : (code : Code) (table : LiveTable) (pc : ℕ) (f : Fetched) → IsOfCode code table
-    → AreGoodBelow (length code.words.items) table code → found_at code.words.items code.start pc ≡ Some f
-    → HasRow table f.op pc
-has_row code table pc f of_code are found =
+has_row : (code : Code) (targets : Targets) (table : LiveTable) (pc : ℕ) (f : Fetched) → IsOfCode code table
+    → AreGoodBelow (length code.words.items) targets table code → found_at code.words.items code.start pc ≡ Some f
+    → HasRow targets table f.op pc
+has_row code targets table pc f of_code are found =
     let words = code.words.items in
     let index = (pc - code.start) / 4 in
     let split = if_some (nat_le code.start pc && ((pc - code.start) % 4 == 0)) (slice_get words index) f found in
@@ -106,10 +106,10 @@ has_row code table pc f of_code are found =
     record {
       row = good.1;
       at = row_there code.start table.start pc table.rows.items good.1 of_code.start split.0 good.3;
-      good = subst (λ p. IsGoodRow table f.op p good.1) here
-          (subst (λ (w : Fetched). IsGoodRow table w.op (code.start + 4 * index) good.1) word good.4);
-      kept = subst (λ p. IsKeptRow table f.op p good.1) here
-          (subst (λ (w : Fetched). IsKeptRow table w.op (code.start + 4 * index) good.1) word good.5);
+      good = subst (λ p. IsGoodRow targets table f.op p good.1) here
+          (subst (λ (w : Fetched). IsGoodRow targets table w.op (code.start + 4 * index) good.1) word good.4);
+      kept = subst (λ p. IsKeptRow targets table f.op p good.1) here
+          (subst (λ (w : Fetched). IsKeptRow targets table w.op (code.start + 4 * index) good.1) word good.5);
     }
 
 or_true : (a b : Bool) → b ≡ true → (a || b) ≡ true
@@ -134,13 +134,14 @@ live_below table pc r by_rows lives =
 
 -- ---- The table
 
-module _ (image : ProgramImage) (code : Code) (table : LiveTable) (fixed : code_writable image ≡ false)
-    (is : IsCodeOf image (byte_in image) code) (of_code : IsOfCode code table) (are : AreGoodBelow (length code.words.items) table code) where
+module _ (image : ProgramImage) (code : Code) (targets : Targets) (table : LiveTable)
+    (fixed : code_writable image ≡ false) (is : IsCodeOf image (byte_in image) code) (of_code : IsOfCode code table)
+    (are : AreGoodBelow (length code.words.items) targets table code) where
   -- At a pc the image has no word, or an instruction of which there is a good row.
   record Finds (pc : ℕ) : Type 0 where
     op : Op
     is_so : op_at image pc ≡ op
-    known : (op ≡ NoWord) ⊎ (OpInRange op × HasRow table op pc)
+    known : (op ≡ NoWord) ⊎ (OpInRange op × HasRow targets table op pc)
 
   finds_in : (pc : ℕ) (found : Option Fetched) → found_at code.words.items code.start pc ≡ found
       → IsFound image (byte_in image) pc found → Finds pc
@@ -149,7 +150,7 @@ module _ (image : ProgramImage) (code : Code) (table : LiveTable) (fixed : code_
   finds_in pc (Some f) same fetched = record {
     op = f.op;
     is_so = ap op_of_word fetched.word ∙ sym fetched.op;
-    known = inr (fetched.in_range, has_row code table pc f of_code are same);
+    known = inr (fetched.in_range, has_row code targets table pc f of_code are same);
   }
 
   finds : (pc : ℕ) → Finds pc
@@ -169,11 +170,11 @@ module _ (image : ProgramImage) (code : Code) (table : LiveTable) (fixed : code_
             live_by table pc r both.1.row both.1.at below (both.1.good.reads r (positive r some) below reads)
       ]
 
-  stays_at : (pc to r : ℕ) → r ≢ 0 → (it : Finds pc) → may_follow it.op pc to ≡ true → live_of table to r ≡ true
+  stays_at : (pc to r : ℕ) → r ≢ 0 → (it : Finds pc) → goes (allows targets) it.op pc to ≡ true → live_of table to r ≡ true
       → (r == destination it.op) ≡ false → live_of table pc r ≡ true
   stays_at pc to r some it follows lives other =
       elim it.known [
-        | inl none ↦ absurd (nowhere pc to (subst (λ o. may_follow o pc to ≡ true) none follows))
+        | inl none ↦ absurd (nowhere (allows targets) pc to (subst (λ o. goes (allows targets) o pc to ≡ true) none follows))
         | inr both ↦
             let below : r < 32 = live_below table to r of_code.by_rows lives in
             live_by table pc r both.1.row both.1.at below
@@ -187,49 +188,49 @@ module _ (image : ProgramImage) (code : Code) (table : LiveTable) (fixed : code_
         | inr both ↦ kept_by table pc both.1.row both.1.at (both.1.kept.used is)
       ]
 
-  kept_at : (pc to : ℕ) → (it : Finds pc) → may_follow it.op pc to ≡ true → kept_of table to ≡ true
+  kept_at : (pc to : ℕ) → (it : Finds pc) → goes (allows targets) it.op pc to ≡ true → kept_of table to ≡ true
       → replaces_reservation (kind_of it.op) ≡ false → kept_of table pc ≡ true
   kept_at pc to it follows keeps replaces =
       elim it.known [
-        | inl none ↦ absurd (nowhere pc to (subst (λ o. may_follow o pc to ≡ true) none follows))
+        | inl none ↦ absurd (nowhere (allows targets) pc to (subst (λ o. goes (allows targets) o pc to ≡ true) none follows))
         | inr both ↦ kept_by table pc both.1.row both.1.at (both.1.kept.stays to follows keeps replaces)
       ]
 
   -- Where an instruction goes on that the image has.
-  goes_by : (pc to : ℕ) → may_go (λ at. code_writable image) (λ at next. true) (op_at image pc) pc to ≡ true
-      → may_follow (op_at image pc) pc to ≡ true
-  goes_by pc to goes =
-      follows_where_it_goes (λ at. code_writable image) (λ at next. true) (op_at image pc) pc to fixed goes
+  goes_by : (pc to : ℕ) → may_go (λ at. code_writable image) (allows targets) (op_at image pc) pc to ≡ true
+      → goes (allows targets) (op_at image pc) pc to ≡ true
+  goes_by pc to going =
+      subst (λ (changes : Bool). may_go (λ at. changes) (allows targets) (op_at image pc) pc to ≡ true) fixed going
 
-  good_live : IsLiveTable image (λ pc. code_writable image) (λ pc to. true) (live_of table)
+  good_live : IsLiveTable image (λ pc. code_writable image) (allows targets) (live_of table)
   good_live = record {
     reads = λ pc r some reads.
         let it = finds pc in
         reads_at pc r some it (subst (λ o. reads_register o r ≡ true) it.is_so reads);
-    stays = λ pc to r some goes lives other.
+    stays = λ pc to r some going lives other.
         let it = finds pc in
-        stays_at pc to r some it (subst (λ o. may_follow o pc to ≡ true) it.is_so (goes_by pc to goes)) lives
+        stays_at pc to r some it (subst (λ o. goes (allows targets) o pc to ≡ true) it.is_so (goes_by pc to going)) lives
         (subst (λ o. (r == destination o) ≡ false) it.is_so other);
     all = λ pc r some written. absurd (grind (arith, fixed, written));
   }
 
-  good_kept : IsKeptTable image (λ pc. code_writable image) (λ pc to. true) (kept_of table)
+  good_kept : IsKeptTable image (λ pc. code_writable image) (allows targets) (kept_of table)
   good_kept = record {
     used = λ pc is.
         let it = finds pc in used_at pc it (subst (λ o. is_conditional (kind_of o) ≡ true) it.is_so is);
-    stays = λ pc to goes keeps replaces.
+    stays = λ pc to going keeps replaces.
         let it = finds pc in
-        kept_at pc to it (subst (λ o. may_follow o pc to ≡ true) it.is_so (goes_by pc to goes)) keeps
+        kept_at pc to it (subst (λ o. goes (allows targets) o pc to ≡ true) it.is_so (goes_by pc to going)) keeps
         (subst (λ o. replaces_reservation (kind_of o) ≡ false) it.is_so replaces);
     all = λ pc written. absurd (grind (arith, fixed, written));
   }
 
-pub good : (image : ProgramImage) (code : Code) (table : LiveTable) → code_writable image ≡ false
-    → IsCodeOf image (byte_in image) code → IsOfCode code table
-    → AreGoodBelow (length code.words.items) table code → IsTableOf image table
-good image code table fixed is of_code are = record {
-  live = good_live image code table fixed is of_code are;
-  kept = good_kept image code table fixed is of_code are;
+pub good : (image : ProgramImage) (code : Code) (targets : Targets) (table : LiveTable)
+    → code_writable image ≡ false → IsCodeOf image (byte_in image) code → IsOfCode code table
+    → AreGoodBelow (length code.words.items) targets table code → IsTableOf image targets table
+good image code targets table fixed is of_code are = record {
+  live = good_live image code targets table fixed is of_code are;
+  kept = good_kept image code targets table fixed is of_code are;
 }
 
 -- Where every register is live, none is missing.
@@ -243,13 +244,14 @@ everywhere_good image changes targets live all = record {
 
 -- ---- Every register live everywhere
 
-kept_row : (table : LiveTable) (op : Op) (pc : ℕ) (row : Row) → row.kept ≡ true → IsKeptRow table op pc row
-kept_row table op pc row kept = record { used = λ is. kept; stays = λ to follows keeps replaces. kept }
+kept_row : (targets : Targets) (table : LiveTable) (op : Op) (pc : ℕ) (row : Row) → row.kept ≡ true
+    → IsKeptRow targets table op pc row
+kept_row targets table op pc row kept = record { used = λ is. kept; stays = λ to follows keeps replaces. kept }
 
-full_row : (table : LiveTable) (op : Op) (pc : ℕ) (row : Row) → row.live ≡ all_alike true
-    → IsGoodRow table op pc row
+full_row : (targets : Targets) (table : LiveTable) (op : Op) (pc : ℕ) (row : Row) → row.live ≡ all_alike true
+    → IsGoodRow targets table op pc row
 unfolding all_alike
-full_row table op pc row full =
+full_row targets table op pc row full =
     let live : (r : ℕ) → r < 32 → slice_index_or row.live r false ≡ true =
     (λ r below. ap (λ l. slice_index_or l r false) full ∙ get_or-replicate 32 r true false below) in
     record {
@@ -270,10 +272,10 @@ element xs i below =
       | inr past ↦ absurd (omega arith)
     ]
 
-full_below : (code : Code) (table : LiveTable) → IsOfCode code table
+full_below : (code : Code) (targets : Targets) (table : LiveTable) → IsOfCode code table
     → All (IsAllAlike true) table.rows.items
-    → AreGoodBelow (length code.words.items) table code
-full_below code table of_code full index below =
+    → AreGoodBelow (length code.words.items) targets table code
+full_below code targets table of_code full index below =
     let word = element code.words.items index below in
     let rows = of_code.rows in
     let row = element table.rows.items index (omega arith) in
@@ -283,12 +285,12 @@ full_below code table of_code full index below =
       row.element,
       word.at,
       row.at,
-      full_row table word.element.op (code.start + 4 * index) row.element alike.live_are,
-      kept_row table word.element.op (code.start + 4 * index) row.element alike.kept_is,
+      full_row targets table word.element.op (code.start + 4 * index) row.element alike.live_are,
+      kept_row targets table word.element.op (code.start + 4 * index) row.element alike.kept_is,
     )
 
-pub full_good : (image : ProgramImage) (code : Code) (table : LiveTable) → code_writable image ≡ false
-    → IsCodeOf image (byte_in image) code → IsOfCode code table
-    → All (IsAllAlike true) table.rows.items → IsTableOf image table
-full_good image code table fixed is of_code full =
-    good image code table fixed is of_code (full_below code table of_code full)
+pub full_good : (image : ProgramImage) (code : Code) (targets : Targets) (table : LiveTable)
+    → code_writable image ≡ false → IsCodeOf image (byte_in image) code → IsOfCode code table
+    → All (IsAllAlike true) table.rows.items → IsTableOf image targets table
+full_good image code targets table fixed is of_code full =
+    good image code targets table fixed is of_code (full_below code targets table of_code full)

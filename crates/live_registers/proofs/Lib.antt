@@ -1,2 +1,3 @@
 mod Below
+mod Listed
 pub mod Good

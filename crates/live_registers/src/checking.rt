@@ -1,7 +1,7 @@
 //! When a table is good: a register is live wherever it may be read before it is written, and a reservation is kept
 //! wherever an SC may use it.
 
-ghost use Rattle.std.specs.Prelude.{◌≡◌, ◌<◌, ◌+◌, ◌*◌, ℕ, true, false, ◌==◌, length, IfSome};
+ghost use Rattle.std.specs.Prelude.{◌≡◌, ◌<◌, ◌+◌, ◌*◌, ℕ, true, false, ◌==◌, ◌&&◌, length, IfSome};
 ghost use Rattle.rv_instr.specs.Kinds.{destination, kind_of};
 ghost use Rattle.std.specs.List.{list_any};
 ghost use Rattle.outcome_laws.specs.Tables.{reads_register, is_conditional, replaces_reservation};

@@ -1,6 +1,11 @@
 use Rattle.std.proofs.Common.{refl, sym, ap, ◌∙◌}
 use Rattle.std.specs.Prelude.{slice_index}
 use Rattle.elf_image.specs.Image.{code_writable, byte_in}
+use Rattle.std.specs.Cmp.{first_so, second_so}
+use Rattle.std.specs.Prelude.{false}
+use Rattle.smt_model.specs.Effects.{effect_of}
+use Rattle.outcome_laws.specs.Local.{is_silent, keeps_to}
+use Rattle.live_registers.specs.Targets.{allows}
 use Rattle.sc_machine.specs.Harts.{register_written}
 use Rattle.condensed_machine.proofs.Finding.{fixed_same, computed_same}
 use Rattle.condensed_machine.proofs.Instructions.{goes_by_one, stands_over, stands_at}
@@ -17,12 +22,15 @@ advance-requires c =
     (c.op_at-op.ensures.in_range c.args.start.now.image (byte_in c.args.start.now.image) c.requires.code)
 
 pub returns-in-Some : goal.returns-in-Some
-returns-in-Some c = λ setup tables h s allows image inside holds is.
+returns-in-Some c = λ setup tables h s has image inside holds is.
     let x = c.args.hart.now in
     let start = c.args.start.now in
     let op = c.op_at-op.result in
     let e = c.in-Some.effect in
     let code = c.requires.code in
+    let d = c.compute-computed.result in
+    let silent = is_silent op d in
+    let keeps = keeps_to (allows c.args.targets.now) op x.pc d.next in
     let of_op =
     fixed_same setup s start h x (sym image) is op holds c.requires.fixed
     (c.op_at-op.ensures.value start.image (byte_in start.image) code) in
@@ -30,8 +38,9 @@ returns-in-Some c = λ setup tables h s allows image inside holds is.
     (c.compute-computed.ensures.value
     ∙ computed_same setup s start h x (sym image) is op
     (c.op_at-op.ensures.in_range start.image (byte_in start.image) code) of_op)
-    tables x c.advance.new.self allows (ap code_writable image ∙ c.requires.fixed) inside is
-    (sym c.is_going.ensures ∙ c.if-not-is_going.false) (sym c.in-Some.ensures.local)
+    c.args.targets.now tables x c.advance.new.self has (ap code_writable image ∙ c.requires.fixed) inside is
+    (sym c.is_going.ensures ∙ c.if-not-is_going.false) (first_so silent keeps (sym c.in-Some.ensures.followed))
+    (second_so silent keeps (sym c.in-Some.ensures.followed))
     c.in-Some.ensures.effect
     (record {
       registers = λ r.
@@ -43,14 +52,14 @@ returns-in-Some c = λ setup tables h s allows image inside holds is.
 
 pub returns-then-not-is_going : goal.returns-then-not-is_going
 returns-then-not-is_going c = (
-  λ setup h s image holds is.
-      stands_over setup s h c.args.hart.now is (sym c.is_going.ensures ∙ c.if-not-is_going.true),
+  λ setup tables h s has image holds is.
+      stands_over setup tables s h c.args.hart.now is (sym c.is_going.ensures ∙ c.if-not-is_going.true),
   refl,
 )
 
 pub returns-in-None : goal.returns-in-None
 returns-in-None c = (
-  λ setup h s image holds is.
+  λ setup tables h s has image holds is.
       let x = c.args.hart.now in
       let start = c.args.start.now in
       let op = c.op_at-op.result in
@@ -58,10 +67,11 @@ returns-in-None c = (
       let of_op =
       fixed_same setup s start h x (sym image) is op holds c.requires.fixed
       (c.op_at-op.ensures.value start.image (byte_in start.image) code) in
-      stands_at setup s h op c.compute-computed.result of_op
+      stands_at setup s h op c.compute-computed.result (effect_of op c.compute-computed.result 0 false) of_op
       (c.compute-computed.ensures.value
       ∙ computed_same setup s start h x (sym image) is op
       (c.op_at-op.ensures.in_range start.image (byte_in start.image) code) of_op)
-      (sym c.in-None.ensures.local),
+      c.args.targets.now tables x.pc has (ap code_writable image ∙ c.requires.fixed) is.pc
+      (sym c.in-None.ensures.followed),
   refl,
 )

@@ -7,18 +7,19 @@ use Rattle.condensed_machine.proofs.Instructions.{stands_written}
 use Rattle.condensed_machine.proofs.settling.settle.Goals as goal
 
 pub loop-steps-init : goal.loop-steps-init
-loop-steps-init c = λ setup tables h s allows image inside holds is. stays_put setup tables h s c.args.hart.now is
+loop-steps-init c = λ setup tables h s has image inside holds is. stays_put setup tables h s c.args.hart.now is
 
 pub loop-steps-preserved : goal.loop-steps-preserved
-loop-steps-preserved c = λ setup tables h s allows image inside holds is.
+loop-steps-preserved c = λ setup tables h s has image inside holds is.
     let now = c.args.start.now.image in
+    let targets = c.args.targets.now in
     let y = c.loop-steps.hart in
     let z = c.step_locally.new.hart in
-    let step : LeadsLocally now y 1 z =
-    subst (λ (made : Bool). StepsLocally now y made z) c.if-not-step_locally.false c.step_locally.ensures in
-    let first = c.loop-steps.invariant setup tables h s allows image inside holds is in
+    let step : LeadsLocally now targets y 1 z =
+    subst (λ (made : Bool). StepsLocally now targets y made z) c.if-not-step_locally.false c.step_locally.ensures in
+    let first = c.loop-steps.invariant setup tables h s has image inside holds is in
     goes_further setup tables h c.loop-steps.steps s y z first
-    (step setup tables h first.there allows image inside
+    (step setup tables h first.there has image inside
     (has_local setup tables (replicate c.loop-steps.steps h) s first.there holds first.local) first.agrees)
 
 pub returns : goal.returns
@@ -26,7 +27,8 @@ returns c =
     let all : c.loop-steps.steps ≡ 1000 = omega arith in
     record {
       leads =
-          subst (λ (steps : ℕ). LeadsLocally c.args.start.now.image c.args.hart.now steps c.loop-steps.hart) all
+          subst (λ (steps : ℕ). LeadsLocally c.args.start.now.image c.args.targets.now c.args.hart.now steps
+          c.loop-steps.hart) all
           c.loop-steps.invariant;
       few = omega arith;
       settled = λ fewer. absurd (omega arith);
@@ -35,17 +37,18 @@ returns c =
 pub returns-then-not-step_locally : goal.returns-then-not-step_locally
 returns-then-not-step_locally c =
     let image = c.args.start.now.image in
+    let targets = c.args.targets.now in
     let y = c.loop-steps.hart in
     let z = c.step_locally.new.hart in
-    let stands : StepsLocally image y false z =
-    subst (λ (made : Bool). StepsLocally image y made z) c.if-not-step_locally.true c.step_locally.ensures in
-    subst (SettlesAs image c.args.hart.now c.loop-steps.steps) (sym stands.1)
+    let stands : StepsLocally image targets y false z =
+    subst (λ (made : Bool). StepsLocally image targets y made z) c.if-not-step_locally.true c.step_locally.ensures in
+    subst (SettlesAs image targets c.args.hart.now c.loop-steps.steps) (sym stands.1)
     (record { leads = c.loop-steps.invariant; few = omega arith; settled = λ fewer. stands.0 })
 
 pub returns-then-writable : goal.returns-then-writable
 returns-then-writable c = record {
-  leads = λ setup tables h s allows image inside holds is. stays_put setup tables h s c.args.hart.now is;
+  leads = λ setup tables h s has image inside holds is. stays_put setup tables h s c.args.hart.now is;
   few = omega arith;
-  settled = λ fewer setup h s image holds is.
-      stands_written setup s h (ap code_writable image ∙ (sym c.requires.writable ∙ c.if-writable.true));
+  settled = λ fewer setup tables h s has image holds is.
+      stands_written setup tables s h (ap code_writable image ∙ (sym c.requires.writable ∙ c.if-writable.true));
 }

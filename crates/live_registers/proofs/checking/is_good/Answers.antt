@@ -5,5 +5,5 @@ use Rattle.live_registers.proofs.checking.is_good.Goals as goal
 
 pub loop-index-preserved : goal.loop-index-preserved
 loop-index-preserved c =
-    one_more (IsGoodAt c.args.table.now c.args.code.now) c.loop-index.index c.loop-index.invariant
+    one_more (IsGoodAt c.args.targets.now c.args.table.now c.args.code.now) c.loop-index.index c.loop-index.invariant
     (c.is_good_at.ensures (grind arith))

@@ -6,7 +6,9 @@ use Rattle.condensed_machine.specs.Machine.{Machine, Grows, HasCode, HaveCode, H
 use Rattle.condensed_machine.specs.MachineInside.{machine_of}
 use Rattle.condensed_machine.specs.Decoded.{hart_at, shared_at, no_hart, no_shared}
 use Rattle.condensed_machine.specs.{Tables.IsSharedAfter, Resting.keeps_reservation, Moves.AreMoves}
-use Rattle.condensed_machine.proofs.Coded.{codes_kept}
+use Rattle.outcome_laws.specs.Local.{keeps_to}
+use Rattle.live_registers.specs.Targets.{allows}
+use Rattle.condensed_machine.proofs.{Coded.codes_kept, Instructions.fits_noted, Instructions.keeps_where_none}
 use Rattle.condensed_machine.proofs.Noted.{moves_stay}
 use Rattle.condensed_machine.proofs.Zero.{zero_behind, zero_rests}
 use Rattle.condensed_machine.proofs.machine.CondensedMachine.make_move.Goals as goal
@@ -156,6 +158,12 @@ returns-clause-is_move c =
       moved = c.come_to_rest-way.new.state;
       executed = c.execute-executed.ensures.executed;
       is_behind = c.execute-executed.ensures.behind;
+      fitting = λ setup s image inside is agrees.
+          fits_noted p setup s h c.numbered_hart.result.now e c.self.invariant.sound image is
+          (c.execute-executed.ensures.executed setup s image inside is agrees)
+          (keeps_where_none c.lacking.result
+          (keeps_to (allows p.targets) e.op c.numbered_hart.result.now.pc e.effect.next) c.lacking.ensures.lacks
+          c.in-None.is);
       rests = c.come_to_rest-way.ensures;
       has = c.in_ok-number.ensures.number;
       after =

@@ -4,4 +4,6 @@ use Rattle.live_registers.proofs.table.LiveTable.of_words.Goals as goal
 
 pub returns-then-is_good-clause-good : goal.returns-then-is_good-clause-good
 returns-then-is_good-clause-good c =
-    λ image fixed is. good image c.args.code.now c.in_ok-table.table fixed is c.in_ok-table.ensures (c.is_good.ensures (grind arith))
+    λ image fixed is.
+    good image c.args.code.now c.args.targets.now c.in_ok-table.table fixed is c.in_ok-table.ensures
+    (c.is_good.ensures (grind arith))
