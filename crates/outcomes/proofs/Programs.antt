@@ -16,17 +16,19 @@ pub of_same : {A E : Type 0} → (P : ProgramImage → ℕ → A → Type 0) (i 
 of_same P i j h k r images harts is =
     subst (λ n. IfOk r (P j n)) harts (subst (λ z. IfOk r (P z h)) images is)
 
+pub so_of_same : (P : ProgramImage → ℕ → Type 0) (i j : ProgramImage) (h k : ℕ) → i ≡ j → h ≡ k → P i h → P j k
+so_of_same P i j h k images harts is = subst (P j) harts (subst (λ z. P z h) images is)
+
 pub for_memory : {A : Type 0} → (image : ProgramImage) (harts : ℕ) (watch : Watch)
     (r : Result A OutcomesRefused) → IfErr r (λ why. why ≡ Memory) → IfErr r (IsRefusedFor image harts watch)
 for_memory image harts watch (Ok found) is = tt
 for_memory image harts watch (Err why) is = subst (IsRefusedFor image harts watch) (sym is) tt
 
 -- A search that is cut short finds none.
-pub for_cut_short : {A : Type 0} → (image : ProgramImage) (harts : ℕ) (watch : Watch) (own targets : Targets)
-    (r : Result A Unfound) → own ≡ targets → IfErr r (IsCutShort own) → IfErr r (IsUnfoundFor image harts watch targets)
-for_cut_short image harts watch own targets (Ok found) same is = tt
-for_cut_short image harts watch own targets (Err (Refused why)) same is = subst (IsRefusedFor image harts watch) (sym is) tt
-for_cut_short image harts watch own targets (Err (Lacks jump)) same is =
+pub when_cut_short : (image : ProgramImage) (harts : ℕ) (watch : Watch) (own targets : Targets) (why : Unfound)
+    → own ≡ targets → IsCutShort own why → IsUnfoundFor image harts watch targets why
+when_cut_short image harts watch own targets (Refused why) same is = subst (IsRefusedFor image harts watch) (sym is) tt
+when_cut_short image harts watch own targets (Lacks jump) same is =
     subst (λ (t : Targets). t.anywhere ≡ false) same is
 
 -- Of targets that allow all, if those given do, a pass with those given says as much.
