@@ -11,7 +11,7 @@ use Rattle.sc_machine.specs.declared.hart.Hart.{Hart}
 use Rattle.changed_memory.specs.Shared.{Shared}
 use Rattle.condensed_machine.specs.Machine.{Program, IsSound, tables_of, Machine, Grows, HasCode, InEachSetup}
 use Rattle.condensed_machine.specs.Decoded.{Decoded, decoded, full, hart_at, hart_in, no_shared, numbers_of}
-use Rattle.condensed_machine.specs.Decoded.{Knows, state_of}
+use Rattle.condensed_machine.specs.Decoded.{Knows}
 use Rattle.condensed_machine.specs.Executing.{IsExecuted, IsBehind, ComesToRest, InEachState, SharedAfter}
 use Rattle.condensed_machine.specs.{Tables.HasNumber, Tables.IsSharedAfter, Steps.SettlesBy, Steps.MakesStep}
 use Rattle.condensed_machine.specs.{Resting.keeps_reservation, declared.executed.Executed.Executed}

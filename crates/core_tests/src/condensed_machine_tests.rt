@@ -5,7 +5,8 @@ ghost use Rattle.condensed_machine.specs.Decoded.{Knows};
 
 use crate::rows::holds;
 use condensed_machine::{CondensedMachine, State};
-use searches::{Machine, Step};
+use live_registers::{Jump, Targets};
+use searches::{Machine, Step, Unmade};
 use smt_model::Status;
 use std::alloc::Global;
 use test_support::{file_of, image_of};
@@ -24,6 +25,21 @@ static COUNTER: [u32; 7] = [
 
 /// `lui x5,0x80001`, `lr.w x7,(x5)`, `jal x0,-4`: a hart reserves a word again and again, and no SC uses that.
 static RESERVING: [u32; 3] = [0x8000_12b7, 0x1002_a3af, 0xffdf_f06f];
+
+/// `auipc x5,0`, `jalr x0,12(x5)`, `ebreak`, `addi x17,x0,93`, `ecall`: a hart jumps over the EBREAK, and ends.
+static JUMPING: [u32; 5] = [
+    0x0000_0297,
+    0x00c2_8067,
+    0x0010_0073,
+    0x05d0_0893,
+    0x0000_0073,
+];
+
+/// Where its JALR goes.
+const OVER: Jump = Jump {
+    from: 0x8000_0004,
+    to: 0x8000_000c,
+};
 
 /// What was seen of a machine on its way.
 #[derive(Clone, Copy, Drop)]
@@ -59,7 +75,13 @@ fn step_of(machine: &mut CondensedMachine, state: State, hart: u8) -> Option<Ste
 fn counted(alloc: Global) -> Option<Seen> {
     let file = file_of(&COUNTER, 0, alloc).ok()?;
     let image = image_of(file.as_slice(), 65536, alloc)?;
-    let Ok(mut machine) = CondensedMachine::new(&image, 2, [false; 32], alloc) else {
+    let Ok(mut machine) = CondensedMachine::new(
+        &image,
+        2,
+        [false; 32],
+        Targets::anywhere(alloc),
+        alloc,
+    ) else {
         return None;
     };
     let Ok(begun) = machine.begin() else {
@@ -103,7 +125,13 @@ fn a_step_is_followed_by_local_ones(rt: HostRuntime) {
 fn is_made_once(alloc: Global) -> Option<(bool, bool)> {
     let file = file_of(&COUNTER, 0, alloc).ok()?;
     let image = image_of(file.as_slice(), 65536, alloc)?;
-    let Ok(mut machine) = CondensedMachine::new(&image, 2, [false; 32], alloc) else {
+    let Ok(mut machine) = CondensedMachine::new(
+        &image,
+        2,
+        [false; 32],
+        Targets::anywhere(alloc),
+        alloc,
+    ) else {
         return None;
     };
     let Ok(begun) = machine.begin() else {
@@ -134,7 +162,13 @@ fn a_step_is_made_once_for_each_hart(rt: HostRuntime) {
 fn comes_back(alloc: Global) -> Option<bool> {
     let file = file_of(&RESERVING, 0, alloc).ok()?;
     let image = image_of(file.as_slice(), 65536, alloc)?;
-    let Ok(mut machine) = CondensedMachine::new(&image, 2, [false; 32], alloc) else {
+    let Ok(mut machine) = CondensedMachine::new(
+        &image,
+        2,
+        [false; 32],
+        Targets::anywhere(alloc),
+        alloc,
+    ) else {
         return None;
     };
     let Ok(begun) = machine.begin() else {
@@ -147,4 +181,61 @@ fn comes_back(alloc: Global) -> Option<bool> {
 #[test]
 fn a_reservation_that_no_store_conditional_uses_is_dropped(rt: HostRuntime) {
     holds(&rt, "back", comes_back(rt.alloc()) == Some(true));
+}
+
+/// How many local steps hart 0 makes at the start, and from where to where its next step jumps that is refused.
+#[derive(Clone, Copy, PartialEq, Eq, Drop)]
+struct Refused {
+    begun: u16,
+    from: u32,
+    to: u32,
+}
+
+/// The machine goes by these targets. Where no step is refused, it jumps from 0 to 0.
+fn refused(targets: Targets, alloc: Global) -> Option<Refused> {
+    let file = file_of(&JUMPING, 0, alloc).ok()?;
+    let image = image_of(file.as_slice(), 65536, alloc)?;
+    let Ok(mut machine) = CondensedMachine::new(&image, 2, [false; 32], targets, alloc) else {
+        return None;
+    };
+    let Ok(begun) = machine.begin() else {
+        return None;
+    };
+    let (from, to) = match machine.step(begun.state, 0) {
+        Ok(_) => (0, 0),
+        Err(Unmade::Lacks(jump)) => (jump.from, jump.to),
+        Err(Unmade::Memory) => return None,
+    };
+    Some(Refused {
+        begun: begun.ways[0],
+        from,
+        to,
+    })
+}
+
+/// The table that has this jump alone, where there is memory for it.
+fn listed(jump: Jump, alloc: Global) -> Option<Targets> {
+    let mut targets = Targets::none(alloc);
+    targets.add(jump).ok()?;
+    Some(targets)
+}
+
+/// Whether what was seen is so many local steps, and a jump that is refused.
+fn is_so(seen: Option<Refused>, begun: u16, from: u32, to: u32) -> bool {
+    seen == Some(Refused { begun, from, to })
+}
+
+#[test]
+fn a_jump_that_the_table_lacks_is_refused(rt: HostRuntime) {
+    let none = refused(Targets::none(rt.alloc()), rt.alloc());
+    holds(&rt, "none", is_so(none, 1, OVER.from, OVER.to));
+    let anywhere = refused(Targets::anywhere(rt.alloc()), rt.alloc());
+    holds(&rt, "anywhere", is_so(anywhere, 4, 0, 0));
+    match listed(OVER, rt.alloc()) {
+        None => holds(&rt, "memory", false),
+        Some(targets) => {
+            let over = refused(targets, rt.alloc());
+            holds(&rt, "listed", is_so(over, 4, 0, 0));
+        }
+    }
 }

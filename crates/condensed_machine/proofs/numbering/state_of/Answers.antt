@@ -1,4 +1,4 @@
-use Rattle.std.proofs.Common.{◌≡◌, ◌≤◌, length, drop, take, [], ◌++◌, ap₂, refl, ◌∙◌, arith}
+use Rattle.std.proofs.Common.{◌≤◌, length, drop, [], ◌++◌, ap₂, refl, ◌∙◌, arith}
 use Rattle.std.proofs.lemmas.List.{length-drop, take_all, take-append-drop}
 use Rattle.std.proofs.lemmas.Option.{get_or_from_slice_get, slice_get_within}
 use Rattle.condensed_machine.proofs.numbering.state_of.Goals as goal

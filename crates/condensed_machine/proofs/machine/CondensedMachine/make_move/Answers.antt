@@ -163,7 +163,7 @@ returns-clause-is_move c =
           (c.execute-executed.ensures.executed setup s image inside is agrees)
           (keeps_where_none c.lacking.result
           (keeps_to (allows p.targets) e.op c.numbered_hart.result.now.pc e.effect.next) c.lacking.ensures.lacks
-          c.in-None.is);
+          c.in_default.is);
       rests = c.come_to_rest-way.ensures;
       has = c.in_ok-number.ensures.number;
       after =

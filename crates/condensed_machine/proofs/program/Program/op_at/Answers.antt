@@ -1,4 +1,4 @@
-use Rattle.std.proofs.Common.{◌≡◌, true, Some, None, sym, ap, subst, ◌∙◌}
+use Rattle.std.proofs.Common.{◌≡◌, true, Some, sym, ap, subst, ◌∙◌}
 use Rattle.elf_image.specs.Image.{byte_in, has_code_word, word_now}
 use Rattle.rv_instr.specs.Decode.{op_of_word}
 use Rattle.rv_instr.specs.declared.op.Op.TheVariants.{NoWord}
