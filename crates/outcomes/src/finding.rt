@@ -196,10 +196,10 @@ fn search_all<O: Onlooker, U: Until>(
         Ok(explored) => explored,
         Err(why) => return Err(why),
     };
-    match outcomes_of(&machine, begun, explored, watch, budget, until, alloc) {
-        Ok(found) => Ok(found),
-        Err(why) => Err(Unfound::Refused(why)),
-    }
+    let Ok(found) = outcomes_of(&machine, begun, explored, watch, budget, until, alloc) else {
+        return Err(Unfound::Refused(OutcomesRefused::Memory));
+    };
+    Ok(found)
 }
 
 /// Looks whether all that is watched is there.

@@ -9,5 +9,5 @@ returns-clause-found g c =
 
 pub returns-clause-unfound : goal.returns-clause-unfound
 returns-clause-unfound g c =
-    unfound_of_same _ _ _ _ c.args.watch.now _ c.args.targets c.search_all.result c.in-Ok.ensures.image
-    c.in-Ok.ensures.harts c.in-Ok.ensures.anywhere c.search_all.ensures.unfound
+    unfound_of_same _ _ _ _ c.args.watch.now c.in-Ok.machine.program.targets c.args.targets c.search_all.result
+    c.in-Ok.ensures.image c.in-Ok.ensures.harts c.in-Ok.ensures.anywhere c.search_all.ensures.unfound

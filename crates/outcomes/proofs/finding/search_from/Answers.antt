@@ -20,5 +20,5 @@ returns-in-Err-Lacks-clause-begun g c =
 
 pub returns-in-Err-Lacks-clause-cut_short : goal.returns-in-Err-Lacks-clause-cut_short
 returns-in-Err-Lacks-clause-cut_short g c =
-    let h = c.in-Err-Lacks in
-    subst (λ (p : Program). p.targets.anywhere ≡ false) c.explore.ensures.grows.program ?
+    let lacks = rw c.in-Err-Lacks.field-0-is at c.in-Err-Lacks.ensures.lacks in
+    subst (λ (p : Program). p.targets.anywhere ≡ false) c.explore.ensures.grows.program lacks.0
