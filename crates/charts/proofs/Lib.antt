@@ -4,3 +4,4 @@ mod Fresh
 mod Growing
 mod Cutting
 mod Squashed
+mod Pictured

@@ -1,5 +1,5 @@
 ghost use Rattle.std.specs.Prelude.{◌≡◌, ◌<◌};
-ghost use Rattle.charts.specs.Views.{shows, draws_hart};
+ghost use Rattle.charts.specs.Views.{shows, draws_hart, view_of};
 
 use crate::row::Row;
 
@@ -17,7 +17,9 @@ pub struct View {
 
 impl View {
     /// What is drawn of a history of so many events, of what is asked for.
-    pub fn new(from: u32, to: u32, hart: Option<u8>, events: usize) -> View {
+    pub fn new(from: u32, to: u32, hart: Option<u8>, events: usize) -> View
+        ensures { result ≡ view_of from to hart events }
+    {
         if events == 0 {
             return View {
                 from: 1,

@@ -16,8 +16,9 @@ use Rattle.command_parts.specs.declared.refused.Refused.{Refused}
 use Rattle.command_parts.specs.declared.refused.Refused.TheVariants as refused
 use Rattle.core_commands.specs.declared.chart_ends.Drawn.{Drawn}
 use Rattle.core_commands.specs.Check.{IsTraceOf, AreHistory, setup_by}
-use Rattle.core_commands.specs.Chart.{hart_fits, IsDrawnOf, OfDrawn, IsDrawingRefusal, IsChartRefusal, ChartComesTo}
-use Rattle.core_commands.specs.ChartEnds.{HasEnds, IsEndRefusal}
+use Rattle.core_commands.specs.Chart.{hart_fits, CanBeDrawn, IsDrawnOf, OfDrawn, IsDrawingRefusal, IsChartRefusal}
+use Rattle.core_commands.specs.Chart.{ChartComesTo}
+use Rattle.core_commands.specs.ChartEnds.{IsEndRefusal}
 use Rattle.core_commands.proofs.OfCheck.{following}
 
 pub history_of : (settings : Settings) (image : ProgramImage) (read : TraceContent) (core : CoreView)
@@ -58,7 +59,8 @@ module _ (settings : Settings) (image : ProgramImage) (trace : List ℕ) (chart 
 
   pub drawing_refusal : (reason : Refused) → IsDrawingRefusal chart drawn reason
       → IsChartRefusal settings image trace chart names reason
-  drawing_refusal (refused.Picture last) is = ((read, is_trace, history), is)
+  drawing_refusal (refused.Picture last) is =
+      of_drawn (λ one. IsDrawingRefusal chart one (refused.Picture last)) is
   drawing_refusal refused.Memory is = tt
   drawing_refusal (refused.NamesNothing option) is =
       of_drawn (λ one. IsEndRefusal chart one (refused.NamesNothing option)) is
@@ -97,11 +99,11 @@ module _ (settings : Settings) (image : ProgramImage) (trace : List ℕ) (chart 
   drawing_refusal refused.Output is = absurd (neither is)
 
   pub comes_to : (answer : Result ℕ Refused) → hart_fits (setup_by settings image read.head).harts chart.hart ≡ true
-      → HasEnds chart drawn → IfOk answer (λ status. status ≡ 0)
+      → CanBeDrawn chart drawn → IfOk answer (λ status. status ≡ 0)
       → IfOk answer (ChartComesTo settings image trace chart names)
-  comes_to (Err why) fits ends zero = tt
-  comes_to (Ok status) fits ends zero = record {
+  comes_to (Err why) fits can_be zero = tt
+  comes_to (Ok status) fits can_be zero = record {
     history = (read, is_trace, (history, fits));
-    ends = of_drawn (HasEnds chart) ends;
+    drawn = of_drawn (CanBeDrawn chart) can_be;
     zero = zero;
   }

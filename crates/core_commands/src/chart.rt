@@ -7,8 +7,7 @@ ghost use Rattle.charts.specs.Rows.{AreRows};
 ghost use Rattle.command_parts.specs.declared.refused.Refused.TheVariants.{Output};
 ghost use Rattle.core_commands.specs.Check.{IsHistoryRefusal, AreHistory, setup_by};
 ghost use Rattle.core_commands.specs.Chart.{IsChartRefusal, ChartComesTo, IsDrawingRefusal};
-ghost use Rattle.core_commands.specs.Chart.{hart_fits, IsHartRefusal, IsPictureRefusal};
-ghost use Rattle.core_commands.specs.ChartEnds.{HasEnds};
+ghost use Rattle.core_commands.specs.Chart.{hart_fits, CanBeDrawn, Fits, IsHartRefusal, IsPictureRefusal};
 ghost use Rattle.symbols.specs.Tables.{table_of};
 ghost use Rattle.address_labels.specs.Labels.{marks_of, marks_where};
 
@@ -93,7 +92,7 @@ fn history_rows(
 /// The text of a chart, or of the file of one.
 fn text_of(drawn: &Drawn<'_>, chart: &ChartCommand<'_>, alloc: Global) -> Result<Vec<u8>, Refused>
     requires few { length drawn.now.events.now ≤ most_events }
-    ensures ends { OnOk result (HasEnds chart.now drawn.now) }
+    ensures ends { OnOk result (CanBeDrawn chart.now drawn.now) }
     ensures refused { IfErr result (IsDrawingRefusal chart.now drawn.now) }
 {
     let (from, to) = ends_of(chart, drawn)?;
@@ -121,7 +120,8 @@ fn draw(
     view: &View,
     alloc: Global,
 ) -> Result<Vec<u8>, Refused>
-    ensures { IfErr result (IsPictureRefusal chart.now) }
+    ensures fits { OnOk result (Fits chart.now view.now drawn.now.rows.now) }
+    ensures refused { IfErr result (IsPictureRefusal chart.now view.now drawn.now.rows.now) }
 {
     let mut text = Vec::new(alloc);
     let (rows, events) = (drawn.rows, drawn.events);
