@@ -5,3 +5,5 @@ mod Growing
 mod Cutting
 mod Squashed
 mod Pictured
+mod Lines
+mod ByFetch

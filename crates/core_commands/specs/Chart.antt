@@ -1,5 +1,7 @@
 -- The command `chart`: the pipeline of a trace, drawn. (This project's own choice.)
-use Rattle.std.specs.Prelude.{◌≡◌, ◌≤◌, ℕ, Bool, true, nat_lt, List, length, reverse, Option, Some, None, is_some}
+use Rattle.std.specs.Prelude.{◌≡◌, ◌≤◌, ℕ, Bool, true, false, nat_lt, if◌then◌else◌, List, [], length, reverse}
+use Rattle.std.specs.Prelude.{Option, Some, None, is_some}
+use Rattle.std.specs.Io.KnownBytes.{Appends}
 use Rattle.elf_image.specs.Image.{ProgramImage}
 use Rattle.sim_inputs.specs.{declared.line.ChartCommand.ChartCommand}
 use Rattle.sim_inputs.specs.{declared.settings.Settings.Settings}
@@ -7,7 +9,9 @@ use Rattle.command_parts.specs.{declared.refused.Refused.Refused}
 use Rattle.command_parts.specs.declared.refused.Refused.TheVariants as refused
 use Rattle.smt_model.specs.Setup.{Setup}
 use Rattle.events.specs.{declared.event.Event.Event}
-use Rattle.charts.specs.{Rows.AreRows, Views.view_of, Views.last_pictured}
+use Rattle.address_labels.specs.Labels.{marks_where}
+use Rattle.sim_inputs.specs.Files.{written_chart}
+use Rattle.charts.specs.{Rows.AreRows, Text.chart_text, Views.view_of, Views.last_pictured}
 use Rattle.charts.specs.{declared.row.Row.Row, declared.view.View.View}
 use Rattle.symbols.specs.Tables.{Table, table_of}
 use Rattle.core_commands.specs.declared.chart_ends.Drawn.{Drawn}
@@ -53,9 +57,23 @@ view_in drawn from to = view_of from to drawn.hart (length drawn.events.now)
 abbrev pub BetweenEnds : ChartCommand → Drawn → (View → Type 0) → Type 0
 BetweenEnds chart drawn P = (from : ℕ) × (to : ℕ) × AreEnds chart drawn from to × P (view_in drawn from to)
 
--- It can be drawn.
-abbrev pub CanBeDrawn : ChartCommand → Drawn → Type 0
-CanBeDrawn chart drawn = BetweenEnds chart drawn (λ view. Fits chart view drawn.rows.now)
+-- What is printed of it: all of its text, unless it goes into a file.
+abbrev pub chart_lines : ChartCommand → Table → View → List Row → List ℕ
+chart_lines chart names view rows = chart_text chart.width (marks_where chart.names names None) view rows
+
+abbrev pub printed_chart : ChartCommand → Table → View → List Row → List ℕ
+printed_chart chart names view rows = if is_some (written_chart chart) then [] else chart_lines chart names view rows
+
+-- It can be drawn, and was.
+pub record IsPrinted (chart : ChartCommand) (drawn : Drawn) (old new : Option (List ℕ)) (view : View) : Type 0 where
+  pub fits : Fits chart view drawn.rows.now
+  pub printed : Appends old new (printed_chart chart (table_of drawn.names.now) view drawn.rows.now)
+
+-- The text of it, where that is what is drawn.
+pub record IsTextOf (chart : ChartCommand) (drawn : Drawn) (text : List ℕ) (view : View) : Type 0 where
+  pub fits : Fits chart view drawn.rows.now
+  pub is : is_some (written_chart chart) ≡ false
+      → text ≡ chart_lines chart (table_of drawn.names.now) view drawn.rows.now
 
 -- The refusals behind the hart's: of its ends, and of a picture.
 abbrev pub IsDrawingRefusal : ChartCommand → Drawn → Refused → Type 0
@@ -87,11 +105,12 @@ IsChartRefusal settings image trace chart names (refused.Turned from to) =
 IsChartRefusal settings image trace chart names reason = IsCheckRefusal settings image trace reason
 
 -- What the command comes to: the trace is that of a history of the core, which has the hart that is to
--- be drawn, and what is to be drawn begins and ends somewhere in it, and isn't too large for a picture; and the exit
--- status is 0.
+-- be drawn, and what is to be drawn begins and ends somewhere in it, and isn't too large for a picture; what was printed
+-- is the text of that, or nothing, where it goes into a file; and the exit status is 0.
 pub record ChartComesTo (settings : Settings) (image : ProgramImage) (trace : List ℕ)
-    (chart : ChartCommand) (names : Table) (exit_status : ℕ) : Type 0 where
+    (chart : ChartCommand) (names : Table) (old new : Option (List ℕ)) (exit_status : ℕ) : Type 0 where
   pub history : OfEvents settings image trace
       (λ setup events. AreHistory setup events × (hart_fits setup.harts chart.hart ≡ true))
-  pub drawn : OfDrawn settings image trace chart names (CanBeDrawn chart)
+  pub drawn : OfDrawn settings image trace chart names
+      (λ drawn. BetweenEnds chart drawn (IsPrinted chart drawn old new))
   pub zero : exit_status ≡ 0
