@@ -1,5 +1,6 @@
 -- What stands beside an address. (This project's own choice.)
-use Rattle.std.specs.Prelude.{ℕ, ◌==◌, if◌then◌else◌, List, [], ◌∷◌, ◌++◌, Option, Some, None, codes}
+use Rattle.std.specs.Prelude.{ℕ, ◌-◌, ◌^◌, ◌==◌, min, if◌then◌else◌, List, [], ◌∷◌, ◌++◌, length, codes}
+use Rattle.std.specs.Prelude.{Option, Some, None}
 use Rattle.std.specs.{Fmt.decimal}
 use Rattle.shown_text.specs.Shown.{shown_name}
 use Rattle.svg_drawing.specs.Text.{drawn_name}
@@ -54,3 +55,10 @@ line_field form (Some lines) address = origin_field form (line_for lines address
 -- All that is wanted beside an address.
 unfoldable pub labels_text : Form → Marks → ℕ → List ℕ
 labels_text form marks address = name_field form marks.names address ++ line_field form marks.lines address
+
+-- A number, or the greatest that a word has where it is greater; and so how many bytes that is in a line of text.
+abbrev pub as_word : ℕ → ℕ
+as_word number = min number (2 ^ 32 - 1)
+
+unfoldable pub label_width : Marks → ℕ → ℕ
+label_width marks address = as_word (length (labels_text Word marks address))

@@ -4,3 +4,6 @@ mod Fresh
 mod Growing
 mod Cutting
 mod Squashed
+mod Pictured
+mod Lines
+mod ByFetch

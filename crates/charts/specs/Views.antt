@@ -1,5 +1,6 @@
 -- Which instructions a chart draws. (This project's own choice.)
-use Rattle.std.specs.Prelude.{ℕ, Bool, true, false, not, ◌==◌, ◌&&◌, nat_lt, Option, None, Some}
+use Rattle.std.specs.Prelude.{ℕ, ◌-◌, min, Bool, true, false, not, ◌==◌, ◌&&◌, nat_lt, if◌then◌else◌}
+use Rattle.std.specs.Prelude.{List, filter, slice_get, Option, None, Some, option_map}
 use Rattle.smt_model.specs.{Basics.or_else}
 use Rattle.charts.specs.{declared.row.Row.Row, declared.row.Squash.Squash, declared.view.View.View}
 
@@ -27,3 +28,18 @@ shows view row =
     draws_hart view.hart row.hart
     && (not (nat_lt view.to view.from)
     && (not (nat_lt view.to row.fetched) && not (is_before (last_place row) view.from)))
+
+-- What is drawn of a history of so many events, where these are the first and the last that are asked for: no more than
+-- there are, and nothing of none.
+abbrev pub view_of : ℕ → ℕ → Option ℕ → ℕ → View
+view_of from to hart events =
+    if events == 0 then record { from = 1; to = 0; hart = hart }
+    else record { from = from; to = min to (events - 1); hart = hart }
+
+-- A picture has so many instructions at most. Where more are drawn, the event before the first that is too many: up to
+-- it no more are.
+abbrev pub most_pictured : ℕ
+most_pictured = 4000
+
+abbrev pub last_pictured : View → List Row → Option ℕ
+last_pictured view rows = option_map (λ row. row.fetched - 1) (slice_get (filter (shows view) rows) most_pictured)

@@ -2,7 +2,7 @@
 
 ghost use Rattle.std.specs.Prelude.{◌≡◌, ◌≢◌, ℕ, IfSome, IfNone};
 ghost use Rattle.events.specs.declared.kind.EventKind.{EventKind as Kind};
-ghost use Rattle.charts.specs.Cells.{place_of, IsCellOf, is_live, is_over};
+ghost use Rattle.charts.specs.Cells.{place_of, cell_at, cell_letter, is_at, is_live, is_over, kind_at, IsCellOf};
 ghost use Rattle.charts.specs.Views.{last_place, is_before, place_of_squash};
 
 use crate::row::Row;
@@ -24,7 +24,9 @@ pub enum Cell {
 
 impl Cell {
     /// The character that it is drawn as.
-    pub fn letter(self) -> u8 {
+    pub fn letter(self) -> u8
+        ensures { result ≡ cell_letter self }
+    {
         match self {
             Cell::Blank => b' ',
             Cell::Live => b'.',
@@ -36,8 +38,10 @@ impl Cell {
 
 impl Row {
     /// What stands in the row under the event at this place.
+    #[tactic(auto, unfolding(crate::specs::Cells::cell_at))]
     pub fn cell(&self, place: u32) -> Cell
-        ensures { IsCellOf self.now place result }
+        ensures is { IsCellOf self.now place result }
+        ensures same { result ≡ cell_at self.now place }
     {
         if let Some(kind) = self.kind_at(place) {
             return Cell::Event(kind);
@@ -57,30 +61,30 @@ impl Row {
     fn kind_at(&self, place: u32) -> Option<EventKind>
         ensures some { IfSome result (λ kind. place_of kind self.now ≡ Some place) }
         ensures none { IfNone result ((kind : Kind) → place_of kind self.now ≢ Some place) }
+        ensures same { result ≡ kind_at self.now place }
     {
-        let here = Some(place);
         if self.fetched == place {
             return Some(EventKind::Fetch);
         }
-        if self.decoded == here {
+        if is_at(self.decoded, place) {
             return Some(EventKind::Decode);
         }
-        if self.renamed == here {
+        if is_at(self.renamed, place) {
             return Some(EventKind::Rename);
         }
-        if self.issued == here {
+        if is_at(self.issued, place) {
             return Some(EventKind::Issue);
         }
-        if self.completed == here {
+        if is_at(self.completed, place) {
             return Some(EventKind::Complete);
         }
-        if self.dropped == here {
+        if is_at(self.dropped, place) {
             return Some(EventKind::Drop);
         }
-        if self.retired == here {
+        if is_at(self.retired, place) {
             return Some(EventKind::Retire);
         }
-        if self.refetched == here {
+        if is_at(self.refetched, place) {
             return Some(EventKind::Refetch);
         }
         None
@@ -147,6 +151,15 @@ impl Row {
             Some(squash) => Some(squash.place),
             None => None,
         }
+    }
+}
+
+fn is_at(event: Option<u32>, place: u32) -> bool
+    ensures { result ≡ is_at event place }
+{
+    match event {
+        Some(at) => at == place,
+        None => false,
     }
 }
 

@@ -1,5 +1,24 @@
 //! The name of a row: its hart, its number, its pc, its instruction, and what is wanted beside the pc.
 
+ghost use Rattle.std.specs.Prelude.{◌≡◌, ◌++◌, ◌∷◌, [], OnOk, codes, if◌then◌else◌};
+ghost use Rattle.std.specs.Fmt.{decimal};
+ghost use Rattle.std.specs.Io.KnownBytes.{Appends};
+ghost use Rattle.text_fields.specs.Spelling.{hex};
+ghost use Rattle.address_labels.specs.Labels.{marks_of};
+ghost use Rattle.charts.specs.Text.{
+  digits,
+  instruction_text,
+  label_text,
+  name_text,
+  name_width,
+  remark_width,
+  spaces,
+  to_left,
+  to_right,
+  widened,
+  widths_of,
+};
+
 use crate::row::Row;
 use crate::view::View;
 use address_labels::{Form, Labels, label_width, write_labels};
@@ -7,20 +26,27 @@ use arrayvec::ArrayString;
 use rv_decode::{Op, decode_op};
 use std::io;
 use std::io::Write;
-use text_fields::push_decimal;
+use text_fields::{push_ascii, push_decimal, push_hex};
 
 /// The spelling of a row's instruction; `.word` and the word where it is none, and a dash where there
 /// is no word.
-pub(crate) fn instruction_of(row: &Row) -> ArrayString<40> {
+pub(crate) fn instruction_of(row: &Row) -> ArrayString<40>
+    ensures { result.bytes ≡ instruction_text row.now }
+{
     match decode_op(row.word) {
         Op::Known(instr) => rv_text::print(instr, row.pc),
-        Op::Illegal => text_of(".word"),
-        Op::NoWord => text_of("-"),
+        Op::Illegal => spelled(true),
+        Op::NoWord => spelled(false),
     }
 }
 
-fn text_of(text: &'static str) -> ArrayString<40> {
-    ArrayString::from(text).unwrap_or_default()
+/// One of the two spellings of what is no instruction.
+fn spelled(is_word: bool) -> ArrayString<40>
+    ensures { result.bytes ≡ (if is_word then codes ".word" else codes "-") }
+{
+    let mut text = ArrayString::new();
+    text.push_str(if is_word { ".word" } else { "-" });
+    text
 }
 
 /// What is wanted beside the pcs of rows, and how it is spelled there.
@@ -34,18 +60,20 @@ pub(crate) struct Named<'a> {
 #[derive(Clone, Copy, Drop)]
 pub(crate) struct Widths {
     /// The digits of the greatest hart that is drawn.
-    hart: usize,
+    hart: u8,
     /// The digits of the greatest number, drawn or not: a remark may name it.
-    number: usize,
+    number: u8,
     /// The characters of the longest instruction that is drawn.
-    instruction: usize,
+    instruction: u8,
     /// The characters of the longest labels beside a pc that is drawn, a space before each; 0 where none are wanted.
-    labels: usize,
+    labels: u32,
 }
 
 impl Widths {
     /// Of the names of the rows that are drawn.
-    pub fn of(rows: &[Row], view: &View, labels: &Labels<'_>) -> Widths {
+    pub fn of(rows: &[Row], view: &View, labels: &Labels<'_>) -> Widths
+        ensures { result ≡ widths_of view.now (marks_of labels.now) rows.now }
+    {
         let mut widths = Widths {
             hart: 1,
             number: digits_of(rows.len().saturating_sub(1)),
@@ -54,69 +82,119 @@ impl Widths {
         };
         for row in rows {
             if view.shows(row) {
-                widths.hart = widths.hart.max(digits_of(usize::from(row.hart)));
-                widths.instruction = widths.instruction.max(instruction_of(row).len());
-                widths.labels = widths.labels.max(label_width(labels, row.pc));
+                widths = widths.widened(row, labels);
             }
         }
         widths
     }
 
+    /// As wide, or as wide as the name of one more row.
+    fn widened(self, row: &Row, labels: &Labels<'_>) -> Widths
+        ensures { result ≡ widened (marks_of labels.now) row.now self }
+    {
+        Widths {
+            hart: self.hart.max(digits_of(usize::from(row.hart))),
+            number: self.number,
+            instruction: self.instruction.max(instruction_of(row).len() as u8),
+            labels: self.labels.max(label_width(labels, row.pc)),
+        }
+    }
+
     /// The width of a name, with a space behind each of its parts.
-    pub fn name(&self) -> usize {
+    pub fn name(&self) -> usize
+        ensures { result ≡ name_width self.now }
+    {
         // Eight digits for the pc, and a space behind each of the four.
-        self.hart
-            .saturating_add(self.number)
-            .saturating_add(self.instruction)
-            .saturating_add(self.labels)
-            .saturating_add(12)
+        usize::from(self.hart)
+            + usize::from(self.number)
+            + usize::from(self.instruction)
+            + self.labels as usize
+            + 12
     }
 
     /// The width of the longest remark behind a row.
-    pub fn remark(&self) -> usize {
+    pub fn remark(&self) -> usize
+        ensures { result ≡ remark_width self.now }
+    {
         // Either ` by ` and a number, or ` replayed`.
-        self.number.saturating_add(4).max(9)
+        (usize::from(self.number) + 4).max(9)
     }
 
     /// Writes the name of the row with this number, with what is wanted beside its pc.
+    #[tactic(auto, unfolding(crate::specs::Text::name_text))]
     pub fn write_name<W: Write>(
         &self,
         row: &Row,
         number: usize,
         named: Named<'_>,
         out: &mut W,
-    ) -> io::Result<()> {
-        let instruction = instruction_of(row);
+    ) -> io::Result<()>
+        ensures { OnOk result (Appends (W.contents out.old) (W.contents out.new)
+            (name_text named.entry.form self.now (marks_of named.entry.labels.now) number row.now)) }
+    {
         write_right(usize::from(row.hart), self.hart, out)?;
         write_right(number, self.number, out)?;
-        write!(out, "{:08x} {instruction}", row.pc)?;
-        let Named { labels, form } = named;
-        if labels.are_none() {
-            out.write_all(b" ")?;
-            return write_spaces(self.instruction.saturating_sub(instruction.len()), out);
-        }
-        write_spaces(self.instruction.saturating_sub(instruction.len()), out)?;
-        write_labels(labels, form, row.pc, out)?;
-        write_spaces(self.labels.saturating_sub(label_width(labels, row.pc)), out)?;
+        write_pc(row.pc, out)?;
+        write_instruction(row, self.instruction, out)?;
+        write_label(named, self.labels, row.pc, out)?;
         out.write_all(b" ")
     }
 }
 
+/// Writes what is wanted beside a pc, to the left of so many places.
+fn write_label<W: Write>(named: Named<'_>, places: u32, pc: u32, out: &mut W) -> io::Result<()>
+    ensures { OnOk result (Appends (W.contents out.old) (W.contents out.new)
+        (label_text named.entry.form places (marks_of named.entry.labels.now) pc)) }
+{
+    let width = label_width(named.labels, pc);
+    write_labels(named.labels, named.form, pc, out)?;
+    write_spaces(places.saturating_sub(width) as usize, out)
+}
+
 /// Writes a number to the right of so many places, and a space.
-fn write_right<W: Write>(number: usize, places: usize, out: &mut W) -> io::Result<()> {
-    write_spaces(places.saturating_sub(digits_of(number)), out)?;
-    write!(out, "{number} ")
+fn write_right<W: Write>(number: usize, places: u8, out: &mut W) -> io::Result<()>
+    ensures { OnOk result (Appends (W.contents out.old) (W.contents out.new) (to_right places (decimal number))) }
+{
+    let mut text = ArrayString::<21>::new();
+    push_decimal(&mut text, number);
+    write_spaces(usize::from(places).saturating_sub(text.len()), out)?;
+    push_ascii(&mut text, b' ');
+    out.write_all(text.as_bytes())
+}
+
+/// Writes a pc, and a space.
+fn write_pc<W: Write>(pc: u32, out: &mut W) -> io::Result<()>
+    ensures { OnOk result (Appends (W.contents out.old) (W.contents out.new) (hex 8 pc ++ 32 ∷ [])) }
+{
+    let mut text = ArrayString::<9>::new();
+    push_hex(&mut text, pc, 8);
+    push_ascii(&mut text, b' ');
+    out.write_all(text.as_bytes())
+}
+
+/// Writes the instruction of a row, to the left of so many places.
+fn write_instruction<W: Write>(row: &Row, places: u8, out: &mut W) -> io::Result<()>
+    ensures { OnOk result (Appends (W.contents out.old) (W.contents out.new)
+        (to_left places (instruction_text row.now))) }
+{
+    let text = instruction_of(row);
+    out.write_all(text.as_bytes())?;
+    write_spaces(usize::from(places).saturating_sub(text.len()), out)
 }
 
 /// How many digits a number has.
-pub(crate) fn digits_of(number: usize) -> usize {
+pub(crate) fn digits_of(number: usize) -> u8
+    ensures { result ≡ digits number }
+{
     let mut text = ArrayString::<20>::new();
     push_decimal(&mut text, number);
-    text.len()
+    text.len() as u8
 }
 
-pub(crate) fn write_spaces<W: Write>(count: usize, out: &mut W) -> io::Result<()> {
-    for _ in 0..count {
+pub(crate) fn write_spaces<W: Write>(count: usize, out: &mut W) -> io::Result<()>
+    ensures { OnOk result (Appends (W.contents out.old) (W.contents out.new) (spaces count)) }
+{
+    for _space in 0..count {
         out.write_all(b" ")?;
     }
     Ok(())

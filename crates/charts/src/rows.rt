@@ -3,6 +3,7 @@ ghost use Rattle.numbers.specs.Sizes.{most_events};
 ghost use Rattle.events.specs.Event.{seq_of};
 ghost use Rattle.charts.specs.Rows.{AreRows, AreHistory, TellSquashes};
 ghost use Rattle.charts.specs.Moves.{HaveMoved, AreCut};
+ghost use Rattle.charts.specs.Order.{AreByFetch};
 
 use crate::row::{Row, Squash};
 use events::Event;
@@ -14,6 +15,7 @@ pub fn rows_of(events: &[Event], alloc: Global) -> Result<Vec<Row>, AllocError>
     requires few { length events.now ≤ most_events }
     ensures rows { IfOk result (λ rows. AreRows (reverse events.now) rows.items) }
     ensures squashed { IfOk result (λ rows. TellSquashes (reverse events.now) rows.items) }
+    ensures by_fetch { IfOk result (λ rows. AreByFetch rows.items) }
 {
     let mut rows = Vec::new(alloc);
     for index in 0..events.len() {

@@ -1,5 +1,8 @@
 //! The chart as a picture: an SVG file, for light and for dark.
 
+ghost use Rattle.std.specs.Prelude.{◌≡◌};
+ghost use Rattle.charts.specs.Views.{last_pictured};
+
 mod page;
 mod strip;
 
@@ -19,7 +22,9 @@ pub const MOST_PICTURED: usize = 4000;
 
 /// The last event to which a picture may be drawn, where it would have more than `MOST_PICTURED`
 /// instructions; none where it has no more.
-pub fn last_pictured(rows: &[Row], view: &View) -> Option<u32> {
+pub fn last_pictured(rows: &[Row], view: &View) -> Option<u32>
+    ensures { result ≡ last_pictured view.now rows.now }
+{
     let mut count = 0_usize;
     for row in rows {
         if view.shows(row) {

@@ -1,5 +1,7 @@
 ghost use Rattle.std.specs.Prelude.{◌≡◌, ◌<◌};
-ghost use Rattle.charts.specs.Views.{shows, draws_hart};
+ghost use Rattle.charts.specs.Views.{last_place, shows, draws_hart, view_of};
+ghost use Rattle.charts.specs.Text.{band_of, bands_of, has_place, last_column, within};
+ghost use Rattle.charts.specs.Order.{AreOverBefore};
 
 use crate::row::Row;
 
@@ -17,7 +19,9 @@ pub struct View {
 
 impl View {
     /// What is drawn of a history of so many events, of what is asked for.
-    pub fn new(from: u32, to: u32, hart: Option<u8>, events: usize) -> View {
+    pub fn new(from: u32, to: u32, hart: Option<u8>, events: usize) -> View
+        ensures { result ≡ view_of from to hart events }
+    {
         if events == 0 {
             return View {
                 from: 1,
@@ -45,7 +49,9 @@ impl View {
     }
 
     /// What it shows of a band.
-    pub(crate) fn within(&self, band: &Band) -> View {
+    pub(crate) fn within(&self, band: &Band) -> View
+        ensures { result ≡ within self.now band.now }
+    {
         View {
             from: band.from,
             to: band.to,
@@ -65,7 +71,9 @@ impl View {
 
 /// The first of the rows, from this one on, that doesn't end before an event: no older one stands in
 /// the columns from this event on.
-pub(crate) fn first_left(rows: &[Row], first: usize, place: u32) -> usize {
+pub(crate) fn first_left(rows: &[Row], first: usize, place: u32) -> usize
+    ensures { AreOverBefore rows.now first result place }
+{
     for index in first..rows.len() {
         if !rows[index].ends_before(place) {
             return index;
@@ -83,7 +91,9 @@ pub(crate) struct Band {
 
 impl Band {
     /// Whether the event at this place has its column here.
-    pub fn has(&self, place: Option<u32>) -> bool {
+    pub fn has(&self, place: Option<u32>) -> bool
+        ensures { result ≡ has_place self.now place }
+    {
         match place {
             Some(place) => self.from <= place && place <= self.to,
             None => false,
@@ -91,7 +101,9 @@ impl Band {
     }
 
     /// The last of its columns in which something of a row may stand.
-    pub fn last_column(&self, row: &Row) -> u32 {
+    pub fn last_column(&self, row: &Row) -> u32
+        ensures { result ≡ last_column self.now (last_place row.now) }
+    {
         match row.last_place() {
             Some(last) => last.min(self.to),
             None => self.to,
@@ -111,6 +123,7 @@ impl View {
     /// How many bands it has, of so many columns each.
     pub(crate) fn bands(&self, columns: u32) -> u32
         requires { 0 < columns }
+        ensures { 1 < columns → result ≡ bands_of self.now columns }
     {
         if self.from > self.to {
             return 0;
@@ -121,6 +134,7 @@ impl View {
     /// The band with this number, of so many columns each.
     pub(crate) fn band(&self, number: u32, columns: u32) -> Band
         requires { 0 < columns }
+        ensures { number < bands_of self.now columns → result ≡ band_of self.now columns number }
     {
         let from = self.from.saturating_add(number.saturating_mul(columns));
         let to = from.saturating_add(columns - 1).min(self.to);

@@ -27,7 +27,7 @@ use Rattle.sim_inputs.specs.declared.line.OutcomesCommand.{OutcomesCommand}
 use Rattle.report_lines.specs.{Lines.status_number, Statuses.says_harts}
 use Rattle.watched_outcomes.specs.Endings.{Ending}
 use Rattle.stress_runs.specs.{Ends.end_of, Ends.rows_of, Ends.tally_of, Ends.worst_of, Answers.sampled_answer}
-use Rattle.core_commands.specs.{Stress.stress_status}
+use Rattle.core_commands.specs.{Stress.stress_status, Chart.OfDrawn, Chart.BetweenEnds, Chart.IsPrinted}
 use Rattle.command_parts.specs.Refused.{AreAccepted, AreRefused}
 use Rattle.commands.specs.{Commands.RunsComeTo, Commands.IsRunsRefusal, Written.ToWrite}
 use Rattle.core_commands.specs.{Run.LackARole, Run.IsRunRefusal}
@@ -402,6 +402,32 @@ of_list list settings program names lines second = record {
   says = λ Traced old new status is. zero_says status is.zero;
 }
 
+chart_kept : (chart : ChartCommand) (settings : Settings) (program : ProgramImage) (names : Table) (trace : List ℕ)
+    (old mid new : Option (List ℕ)) → Keeps mid new
+    → OfDrawn settings program trace chart names (λ drawn. BetweenEnds chart drawn (IsPrinted chart drawn old mid))
+    → OfDrawn settings program trace chart names (λ drawn. BetweenEnds chart drawn (IsPrinted chart drawn old new))
+chart_kept chart settings program names trace old mid new flushed
+    (read, is_trace, (history, (drawn, is_drawn, (from, to, ends, so)))) = (
+      read,
+      is_trace,
+      (
+        history,
+        (
+          drawn,
+          is_drawn,
+          (
+            from,
+            to,
+            ends,
+            record {
+              fits = so.fits;
+              printed = kept old mid new _ so.printed flushed;
+            },
+          ),
+        ),
+      ),
+    )
+
 of_chart : (chart : ChartCommand) (settings : Settings) (program : ProgramImage) (names : Table)
     (lines : Option (List Origin)) (second : Read)
     → IsSound (commands.Chart chart) settings program names lines second
@@ -411,7 +437,11 @@ of_chart chart settings program names lines (Ok trace) = record {
   no_lines = λ number fault is. is;
   unfit = λ accepted is. is;
   output = λ Traced old new status is. (is.history.0, is.history.1, is.history.2.0);
-  flushed = λ Traced old mid new status flushed is. is;
+  flushed = λ Traced old mid new status flushed is. record {
+    history = is.history;
+    drawn = chart_kept chart settings program names trace old mid new flushed is.drawn;
+    zero = is.zero;
+  };
   says = λ Traced old new status is. zero_says status is.zero;
 }
 of_chart chart settings program names lines (Err why) = record {

@@ -120,7 +120,7 @@ CommandComesTo (commands.Outcomes outcomes) settings image names lines second Tr
     OutcomesComeTo settings image names (marks_where false names lines) outcomes (λ text. Traced (TextIf text)) old new
     status
 CommandComesTo (commands.Chart chart) settings image names lines second Traced old new status =
-    OfFile second (λ trace. ChartComesTo settings image trace chart names status)
+    OfFile second (λ trace. ChartComesTo settings image trace chart names old new status)
 
 -- What a command may refuse of settings that are a configuration's: a run of threads needs an actor
 -- of each role, and a trace, checked, drawn or asked for again, may have no more events than a core.

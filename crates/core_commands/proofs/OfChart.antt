@@ -1,5 +1,10 @@
 -- The command `chart`: the events of a trace that was checked are a history of some core.
-use Rattle.std.specs.Prelude.{◌≡◌, ◌⊎◌, ℕ, List, reverse, true, Result, Ok, Err, IfOk}
+use Rattle.std.specs.Prelude.{◌≡◌, ◌⊎◌, ℕ, Bool, List, [], reverse, true, false, if◌then◌else◌, is_some, Result, Ok, Err}
+use Rattle.std.specs.Prelude.{IfOk, OnOk}
+use Rattle.std.specs.Io.KnownBytes.{Appends}
+use Rattle.std.proofs.lemmas.Bool.{cases_Bool}
+use Rattle.charts.specs.{declared.row.Row.Row, declared.view.View.View}
+use Rattle.sim_inputs.specs.Files.{written_chart}
 use Rattle.std.proofs.Common.{subst, ap, ◌∙◌, inl, inr, Option}
 use Rattle.elf_image.specs.Image.{ProgramImage}
 use Rattle.event_text.specs.{Contents.TraceContent}
@@ -16,8 +21,9 @@ use Rattle.command_parts.specs.declared.refused.Refused.{Refused}
 use Rattle.command_parts.specs.declared.refused.Refused.TheVariants as refused
 use Rattle.core_commands.specs.declared.chart_ends.Drawn.{Drawn}
 use Rattle.core_commands.specs.Check.{IsTraceOf, AreHistory, setup_by}
-use Rattle.core_commands.specs.Chart.{hart_fits, IsDrawnOf, OfDrawn, IsDrawingRefusal, IsChartRefusal, ChartComesTo}
-use Rattle.core_commands.specs.ChartEnds.{HasEnds, IsEndRefusal}
+use Rattle.core_commands.specs.Chart.{hart_fits, BetweenEnds, IsDrawnOf, OfDrawn, IsDrawingRefusal, IsChartRefusal}
+use Rattle.core_commands.specs.Chart.{ChartComesTo, IsPrinted, IsTextOf, chart_lines, printed_chart, view_in}
+use Rattle.core_commands.specs.ChartEnds.{IsEndRefusal}
 use Rattle.core_commands.proofs.OfCheck.{following}
 
 pub history_of : (settings : Settings) (image : ProgramImage) (read : TraceContent) (core : CoreView)
@@ -48,6 +54,20 @@ pub drawn_of : (settings : Settings) (image : ProgramImage) (trace : List ℕ) (
 drawn_of settings image trace chart names read drawn rows events hart same =
     record { rows = rows; events_are = events; hart = hart; names_are = same }
 
+printed_of : (chart : ChartCommand) (names : Table) (view : View) (rows : List Row) (text lent : List ℕ)
+    (old new : Option (List ℕ))
+    → (is_some (written_chart chart) ≡ false → text ≡ chart_lines chart names view rows) → lent ≡ text
+    → Appends old new (if is_some (written_chart chart) then [] else lent)
+    → Appends old new (printed_chart chart names view rows)
+printed_of chart names view rows text lent old new is same printed =
+    elim (cases_Bool (is_some (written_chart chart))) [
+      | inl written ↦
+          rw written (subst (λ (b : Bool). Appends old new (if b then [] else lent)) written printed)
+      | inr unwritten ↦
+          rw unwritten (subst (λ (t : List ℕ). Appends old new t) (same ∙ is unwritten)
+          (subst (λ (b : Bool). Appends old new (if b then [] else lent)) unwritten printed))
+    ]
+
 -- A trace of a history of the core, and what is drawn of it.
 module _ (settings : Settings) (image : ProgramImage) (trace : List ℕ) (chart : ChartCommand) (names : Table)
     (read : TraceContent) (is_trace : IsTraceOf trace read)
@@ -58,7 +78,8 @@ module _ (settings : Settings) (image : ProgramImage) (trace : List ℕ) (chart 
 
   pub drawing_refusal : (reason : Refused) → IsDrawingRefusal chart drawn reason
       → IsChartRefusal settings image trace chart names reason
-  drawing_refusal (refused.Picture last) is = ((read, is_trace, history), is)
+  drawing_refusal (refused.Picture last) is =
+      of_drawn (λ one. IsDrawingRefusal chart one (refused.Picture last)) is
   drawing_refusal refused.Memory is = tt
   drawing_refusal (refused.NamesNothing option) is =
       of_drawn (λ one. IsEndRefusal chart one (refused.NamesNothing option)) is
@@ -96,12 +117,24 @@ module _ (settings : Settings) (image : ProgramImage) (trace : List ℕ) (chart 
   drawing_refusal refused.File is = absurd (neither is)
   drawing_refusal refused.Output is = absurd (neither is)
 
-  pub comes_to : (answer : Result ℕ Refused) → hart_fits (setup_by settings image read.head).harts chart.hart ≡ true
-      → HasEnds chart drawn → IfOk answer (λ status. status ≡ 0)
-      → IfOk answer (ChartComesTo settings image trace chart names)
-  comes_to (Err why) fits ends zero = tt
-  comes_to (Ok status) fits ends zero = record {
+  pub comes_to : (answer : Result ℕ Refused) (text lent : List ℕ) (old new : Option (List ℕ))
+      → hart_fits (setup_by settings image read.head).harts chart.hart ≡ true
+      → BetweenEnds chart drawn (IsTextOf chart drawn text) → lent ≡ text
+      → OnOk answer (Appends old new (if is_some (written_chart chart) then [] else lent))
+      → IfOk answer (λ status. status ≡ 0)
+      → IfOk answer (ChartComesTo settings image trace chart names old new)
+  comes_to (Err why) text lent old new fits is same printed zero = tt
+  comes_to (Ok status) text lent old new fits (from, to, ends, is) same printed zero = record {
     history = (read, is_trace, (history, fits));
-    ends = of_drawn (HasEnds chart) ends;
+    drawn = of_drawn (λ one. BetweenEnds chart one (IsPrinted chart one old new)) (
+      from,
+      to,
+      ends,
+      record {
+        fits = is.fits;
+        printed = printed_of chart (table_of drawn.names.now) (view_in drawn from to) drawn.rows.now text lent old new
+            is.is same printed;
+      },
+    );
     zero = zero;
   }

@@ -95,9 +95,6 @@ pub record AreEnds (chart : ChartCommand) (drawn : Drawn) (from to : ℕ) : Type
   pub last : IsLast chart.to drawn to
   pub rises : (to < from) → ⊥
 
-abbrev pub HasEnds : ChartCommand → Drawn → Type 0
-HasEnds chart drawn = (from : ℕ) × (to : ℕ) × AreEnds chart drawn from to
-
 -- ---- When they are refused
 
 -- Nothing is drawn of what a symbol names: no fetch at which a chart may begin, no event at which it may end.

@@ -1,14 +1,17 @@
 //! The command `chart`: the pipeline of a trace, drawn.
 
-ghost use Rattle.std.specs.Prelude.{◌≡◌, ◌≤◌, None, IfOk, IfErr, OnOk, is_some, length, reverse, true, false};
+ghost use Rattle.std.specs.Prelude.{◌≡◌, ◌≤◌, [], None, IfOk, IfErr, IfSome, IfNone, OnOk, if◌then◌else◌, is_some};
+ghost use Rattle.std.specs.Prelude.{length, reverse, true, false};
 ghost use Rattle.numbers.specs.Sizes.{most_events};
 ghost use Rattle.sim_inputs.specs.Files.{written_chart};
 ghost use Rattle.charts.specs.Rows.{AreRows};
+ghost use Rattle.charts.specs.Order.{AreByFetch};
+ghost use Rattle.std.specs.Io.KnownBytes.{Appends};
 ghost use Rattle.command_parts.specs.declared.refused.Refused.TheVariants.{Output};
 ghost use Rattle.core_commands.specs.Check.{IsHistoryRefusal, AreHistory, setup_by};
 ghost use Rattle.core_commands.specs.Chart.{IsChartRefusal, ChartComesTo, IsDrawingRefusal};
-ghost use Rattle.core_commands.specs.Chart.{hart_fits, IsHartRefusal, IsPictureRefusal};
-ghost use Rattle.core_commands.specs.ChartEnds.{HasEnds};
+ghost use Rattle.core_commands.specs.Chart.{hart_fits, BetweenEnds, Fits, IsHartRefusal, IsPictureRefusal};
+ghost use Rattle.core_commands.specs.Chart.{IsTextOf, IsTooLarge};
 ghost use Rattle.symbols.specs.Tables.{table_of};
 ghost use Rattle.address_labels.specs.Labels.{marks_of, marks_where};
 
@@ -44,7 +47,8 @@ pub fn perform_chart<R, G, P, S: EndFiles, W: Write>(
     requires works { S.has_failed context.old.files ≡ false }
     requires finished { S.is_finished context.old.files ≡ true }
     ensures refused { IfErr result (IsChartRefusal settings.now image.now trace.now chart.now (table_of names.now)) }
-    ensures ended { IfOk result (ChartComesTo settings.now image.now trace.now chart.now (table_of names.now)) }
+    ensures ended { IfOk result (ChartComesTo settings.now image.now trace.now chart.now (table_of names.now)
+        (W.contents context.old.out) (W.contents context.new.out)) }
     ensures unwanted { is_some (written_chart chart.now) ≡ false → context.new.files ≡ context.old.files }
     ensures unbroken { OnOk result (S.has_failed context.new.files ≡ false) }
     ensures finished { OnOk result (S.is_finished context.new.files ≡ true) }
@@ -80,6 +84,7 @@ fn history_rows(
         (AreHistory (setup_by settings.now image.now trace.now.head) trace.now.events) }
     ensures few { OnOk result (length trace.now.events ≤ most_events) }
     ensures rows { IfOk result (λ rows. AreRows (reverse trace.now.events) rows.items) }
+    ensures by_fetch { IfOk result (λ rows. AreByFetch rows.items) }
     ensures refused { IfErr result
         (IsHistoryRefusal (setup_by settings.now image.now trace.now.head) trace.now.events) }
 {
@@ -93,7 +98,8 @@ fn history_rows(
 /// The text of a chart, or of the file of one.
 fn text_of(drawn: &Drawn<'_>, chart: &ChartCommand<'_>, alloc: Global) -> Result<Vec<u8>, Refused>
     requires few { length drawn.now.events.now ≤ most_events }
-    ensures ends { OnOk result (HasEnds chart.now drawn.now) }
+    requires by_fetch { AreByFetch drawn.now.rows.now }
+    ensures text { IfOk result (λ text. BetweenEnds chart.now drawn.now (IsTextOf chart.now drawn.now text.items)) }
     ensures refused { IfErr result (IsDrawingRefusal chart.now drawn.now) }
 {
     let (from, to) = ends_of(chart, drawn)?;
@@ -121,20 +127,59 @@ fn draw(
     view: &View,
     alloc: Global,
 ) -> Result<Vec<u8>, Refused>
-    ensures { IfErr result (IsPictureRefusal chart.now) }
+    requires by_fetch { AreByFetch drawn.now.rows.now }
+    ensures text { IfOk result (λ text. IsTextOf chart.now drawn.now text.items view.now) }
+    ensures refused { IfErr result (IsPictureRefusal chart.now view.now drawn.now.rows.now) }
+{
+    if let Some(last) = too_large(drawn, chart, view) {
+        return Err(Refused::Picture(last));
+    }
+    if chart.written().is_some() {
+        return drawing(drawn, chart, view, alloc);
+    }
+    let mut text = Vec::new(alloc);
+    match write_text(
+        drawn.rows,
+        view,
+        chart.width,
+        &labels_of(chart, drawn),
+        &mut text,
+    ) {
+        Ok(()) => Ok(text),
+        Err(_) => Err(Refused::Memory),
+    }
+}
+
+/// The last event to which a picture may be drawn, where one is wanted and would be too large.
+fn too_large(drawn: &Drawn<'_>, chart: &ChartCommand<'_>, view: &View) -> Option<u32>
+    ensures some { IfSome result (IsTooLarge chart.now view.now drawn.now.rows.now) }
+    ensures none { IfNone result (Fits chart.now view.now drawn.now.rows.now) }
+{
+    if chart.svg.is_none() {
+        return None;
+    }
+    last_pictured(drawn.rows, view)
+}
+
+/// What goes into a file: a picture, or a log.
+fn drawing(
+    drawn: &Drawn<'_>,
+    chart: &ChartCommand<'_>,
+    view: &View,
+    alloc: Global,
+) -> Result<Vec<u8>, Refused>
+    requires written { is_some (written_chart chart.now) ≡ true }
+    requires fits { Fits chart.now view.now drawn.now.rows.now }
+    ensures text { IfOk result (λ text. IsTextOf chart.now drawn.now text.items view.now) }
+    ensures refused { IfErr result (IsPictureRefusal chart.now view.now drawn.now.rows.now) }
 {
     let mut text = Vec::new(alloc);
     let (rows, events) = (drawn.rows, drawn.events);
     let labels = &labels_of(chart, drawn);
     let made = if chart.svg.is_some() {
-        if let Some(last) = last_pictured(rows, view) {
-            return Err(Refused::Picture(last));
-        }
         write_svg(rows, events, view, chart.width, labels, &mut text)
-    } else if chart.kanata.is_some() {
-        write_kanata(rows, events, view, labels, &mut text, alloc)
     } else {
-        write_text(rows, view, chart.width, labels, &mut text)
+        write_kanata(rows, events, view, labels, &mut text, alloc)
     };
     match made {
         Ok(()) => Ok(text),
@@ -161,6 +206,8 @@ fn put_chart<S: EndFiles, W: Write>(
     requires finished { S.is_finished file.old ≡ true }
     ensures refused { IfErr result (λ reason. reason ≡ Output) }
     ensures zero { IfOk result (λ status. status ≡ 0) }
+    ensures printed { OnOk result (Appends (W.contents out.old) (W.contents out.new)
+        (if is_some (written_chart chart.now) then [] else text.now)) }
     ensures unwanted { is_some (written_chart chart.now) ≡ false → file.new ≡ file.old }
     ensures unbroken { OnOk result (S.has_failed file.new ≡ false) }
     ensures finished { OnOk result (S.is_finished file.new ≡ true) }

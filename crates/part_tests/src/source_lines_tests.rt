@@ -19,7 +19,7 @@ fn fault_of(text: &[u8], alloc: Global) -> Option<(usize, LineFault)> {
 }
 
 /// What stands beside an address of that image, and how wide it is.
-fn beside(address: u32, alloc: Global) -> Option<(Vec<u8>, usize)> {
+fn beside(address: u32, alloc: Global) -> Option<(Vec<u8>, u32)> {
     let file = file_of(&WORDS, 0, alloc).ok()?;
     let image = image_of(&file, 8192, alloc)?;
     let lines: SourceLines<'_> = read_lines(
@@ -31,7 +31,7 @@ fn beside(address: u32, alloc: Global) -> Option<(Vec<u8>, usize)> {
 }
 
 /// What is written beside an address, and how wide it is.
-fn said_beside(address: u32, lines: &SourceLines<'_>, alloc: Global) -> Option<(Vec<u8>, usize)> {
+fn said_beside(address: u32, lines: &SourceLines<'_>, alloc: Global) -> Option<(Vec<u8>, u32)> {
     let labels = Labels {
         names: None,
         lines: Some(lines),
@@ -44,7 +44,7 @@ fn said_beside(address: u32, lines: &SourceLines<'_>, alloc: Global) -> Option<(
 /// Whether this stands beside an address.
 fn stands(address: u32, text: &[u8], alloc: Global) -> bool {
     match beside(address, alloc) {
-        Some((found, width)) => found.as_slice() == text && width == text.len(),
+        Some((found, width)) => found.as_slice() == text && width as usize == text.len(),
         None => false,
     }
 }

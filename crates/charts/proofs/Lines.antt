@@ -1,0 +1,294 @@
+-- What the loops over a chart's rows and columns write.
+use Rattle.std.specs.Prelude.{filter, if◌then◌else◌}
+use Rattle.std.specs.List.{range_with_len}
+use Rattle.std.specs.Io.KnownBytes.{Appends}
+use Rattle.std.proofs.Common.{◌≡◌, ℕ, zero, suc, ◌+◌, ◌-◌, ◌*◌, ◌/◌, ◌<◌, ◌≤◌, ◌^◌, min, Bool, true, false, not, nat_lt}
+use Rattle.std.proofs.Common.{List, [], ◌∷◌, ◌++◌, length, take, drop, get_or, map, replicate, Option, Some, None}
+use Rattle.std.proofs.Common.{refl, sym, ap, subst, ◌∙◌, append_assoc, append-nil, arith, inl, inr}
+use Rattle.std.proofs.lemmas.Bool.{cases_Bool, cases_lt}
+use Rattle.std.proofs.lemmas.Bool.Decides.{nat_tests}
+use Rattle.std.proofs.lemmas.Grind.{common_steps}
+use Rattle.std.proofs.lemmas.List.{take_more, get_or-take, get_or_default, get_or-drop, length-drop, length-take}
+use Rattle.std.proofs.lemmas.List.Elements.{filter-append}
+use Rattle.std.proofs.Math.Nat.{div-mul-le_self}
+use Rattle.std.proofs.Common.{mul-le-mul_right}
+use Rattle.text_fields.specs.Each.{each_from}
+use Rattle.text_fields.proofs.Appending.{appends_more, each_step}
+use Rattle.address_labels.specs.Labels.{Marks}
+use Rattle.charts.specs.{declared.row.Row.Row, declared.view.View.View, declared.view.Band.Band}
+use Rattle.charts.specs.declared.label.Widths.{Widths}
+use Rattle.charts.specs.Views.{shows, is_before, last_place, draws_hart}
+use Rattle.charts.specs.Order.{AreByFetch, AreOver, AreOverBefore}
+use Rattle.charts.specs.Cells.{letter_at}
+use Rattle.charts.specs.Text.{widened, widened_over, band_of, bands_of, row_text, within, places, ruler_from}
+use Rattle.charts.specs.Text.{number_over, column_behind, band_text, bands_text, gap_before, chart_by, chart_text}
+use Rattle.charts.specs.Text.{columns_in, line_text, widths_of}
+
+appends_none : (old : Option (List ℕ)) → Appends old old []
+appends_none None = tt
+appends_none (Some xs) = sym (append-nil xs)
+
+-- ---- What is left to write
+
+-- So much is written of a whole text that this is left.
+pub record IsLeft (old new : Option (List ℕ)) (left whole : List ℕ) : Type 0 where
+  pub text : List ℕ
+  pub written : Appends old new text
+  pub is : text ++ left ≡ whole
+
+pub all_left : (old : Option (List ℕ)) (whole : List ℕ) → IsLeft old old whole whole
+all_left old whole = record { text = []; written = appends_none old; is = refl }
+
+pub one_less : (old mid new : Option (List ℕ)) (one left both whole : List ℕ) → both ≡ one ++ left
+    → IsLeft old mid both whole → Appends mid new one → IsLeft old new left whole
+one_less old mid new one left both whole same before next = record {
+  text = before.text ++ one;
+  written = appends_more old mid new before.text one before.written next;
+  is = append_assoc before.text one left ∙ ap (λ t. before.text ++ t) (sym same) ∙ before.is;
+}
+
+pub none_left : (old new : Option (List ℕ)) (left whole : List ℕ) → left ≡ [] → IsLeft old new left whole
+    → Appends old new whole
+none_left old new left whole none so =
+    subst (λ t. Appends old new t) (sym (append-nil so.text) ∙ ap (λ t. so.text ++ t) (sym none) ∙ so.is) so.written
+
+pub next_place : (place last : ℕ) → place ≤ last → places place last ≡ place ∷ places (place + 1) last
+next_place place last below =
+    let some : suc last - place ≡ suc (last - place) = omega arith in
+    let fewer : last - place ≡ suc last - (place + 1) = omega arith in
+    ap (range_with_len place) some ∙ ap (λ n. place ∷ range_with_len (place + 1) n) fewer
+
+pub no_place : (place last : ℕ) → last < place → places place last ≡ []
+no_place place last above = let none : suc last - place ≡ 0 = omega arith in ap (range_with_len place) none
+
+pub next_letter : (row : Row) (place last : ℕ) → place ≤ last
+    → map (letter_at row) (places place last) ≡ (letter_at row place ∷ []) ++ map (letter_at row) (places (place + 1) last)
+next_letter row place last below = ap (map (letter_at row)) (next_place place last below)
+
+pub no_letter : (row : Row) (place last : ℕ) → last < place → map (letter_at row) (places place last) ≡ []
+no_letter row place last above = ap (map (letter_at row)) (no_place place last above)
+
+pub next_number : (column place last : ℕ) → place ≤ last → ruler_from column (places place last)
+    ≡ number_over column place ++ ruler_from (column_behind column place) (places (place + 1) last)
+next_number column place last below = ap (ruler_from column) (next_place place last below)
+
+pub no_number : (column place last : ℕ) → last < place → ruler_from column (places place last) ≡ []
+no_number column place last above = ap (ruler_from column) (no_place place last above)
+
+-- ---- Widths
+
+over_both : (marks : Marks) (rows more : List Row) (widths : Widths)
+    → widened_over marks widths (rows ++ more) ≡ widened_over marks (widened_over marks widths rows) more
+over_both marks [] more widths = refl
+over_both marks (row ∷ rows) more widths = over_both marks rows more (widened marks row widths)
+
+-- One more row, drawn or not.
+module _ (view : View) (marks : Marks) (least : Widths) (rows : List Row) (i : ℕ) (d : Row)
+    (inside : i < length rows) where
+  more_shown : filter (shows view) (take (i + 1) rows)
+      ≡ filter (shows view) (take i rows) ++ filter (shows view) (get_or rows i d ∷ [])
+  more_shown = ap (filter (shows view)) (take_more rows i d inside)
+      ∙ filter-append (shows view) (take i rows) (get_or rows i d ∷ [])
+
+  pub wider : (widths : Widths) → shows view (get_or rows i d) ≡ true
+      → widths ≡ widened_over marks least (filter (shows view) (take i rows))
+      → widened marks (get_or rows i d) widths ≡ widened_over marks least (filter (shows view) (take (i + 1) rows))
+  wider widths drawn before =
+      let one : filter (shows view) (get_or rows i d ∷ []) ≡ get_or rows i d ∷ [] = rw drawn refl in
+      ap (widened marks (get_or rows i d)) before
+      ∙ sym (over_both marks (filter (shows view) (take i rows)) (get_or rows i d ∷ []) least)
+      ∙ ap (λ shown. widened_over marks least (filter (shows view) (take i rows) ++ shown)) (sym one)
+      ∙ ap (widened_over marks least) (sym more_shown)
+
+  pub as_wide : (widths : Widths) → shows view (get_or rows i d) ≡ false
+      → widths ≡ widened_over marks least (filter (shows view) (take i rows))
+      → widths ≡ widened_over marks least (filter (shows view) (take (i + 1) rows))
+  as_wide widths undrawn before =
+      let none : filter (shows view) (get_or rows i d ∷ []) ≡ [] = rw undrawn refl in
+      before
+      ∙ ap (widened_over marks least) (sym (append-nil (filter (shows view) (take i rows))))
+      ∙ ap (λ shown. widened_over marks least (filter (shows view) (take i rows) ++ shown)) (sym none)
+      ∙ ap (widened_over marks least) (sym more_shown)
+
+-- ---- Bands
+
+-- The column at which a band begins stands in the view.
+pub begins_inside : (view : View) (columns number : ℕ) → number < bands_of view columns
+    → view.from + number * columns ≤ view.to
+begins_inside view columns number one_of =
+    elim (cases_Bool (nat_lt view.to view.from)) [
+      | inl turned ↦
+          let none : number < 0 = subst (λ (b : Bool). number < (if b then 0 else (view.to - view.from) / columns + 1))
+          turned one_of in
+          absurd (omega (arith, none))
+      | inr rises ↦
+          let few : number < (view.to - view.from) / columns + 1 =
+          subst (λ (b : Bool). number < (if b then 0 else (view.to - view.from) / columns + 1)) rises one_of in
+          let within : (view.to - view.from) / columns * columns ≤ view.to - view.from =
+          div-mul-le_self (view.to - view.from) columns in
+          let smaller : number * columns ≤ (view.to - view.from) / columns * columns =
+          mul-le-mul_right columns (omega (arith, few)) in
+          grind (arith, nat_tests, smaller, within, rises)
+    ]
+
+-- ---- Rows that nothing stands of
+
+pub over_from : (rows : List Row) (first next place : ℕ) → AreOver rows first place
+    → AreOverBefore rows first next place → AreOver rows next place
+over_from rows first next place before more k d least below =
+    elim (cases_lt k first) [
+      | inl old ↦ before k d least old
+      | inr new ↦ more k d new below
+    ]
+
+later_over : (last : Option ℕ) (place later : ℕ) → place ≤ later → is_before last place ≡ true
+    → is_before last later ≡ true
+later_over None place later rises is = is
+later_over (Some at) place later rises is = grind (arith, nat_tests, rises, is)
+
+pub over_later : (rows : List Row) (next place later : ℕ) → place ≤ later → AreOver rows next place
+    → AreOver rows next later
+over_later rows next place later rises over k d least below =
+    later_over (last_place (get_or rows k d)) place later rises (over k d least below)
+
+-- ---- The texts of rows
+
+seam : {A : Type 0} (text : ℕ → A → List ℕ) (place n : ℕ) (xs : List A)
+    → each_from text place xs ≡ each_from text place (take n xs) ++ each_from text (place + n) (drop n xs)
+seam text place zero xs = let same : place ≡ place + 0 = omega arith in ap (λ p. each_from text p xs) same
+seam text place (suc n) [] = refl
+seam text place (suc n) (x ∷ xs) =
+    let same : place + 1 + n ≡ place + suc n = omega arith in
+    ap (λ t. text place x ++ t) (seam text (place + 1) n xs)
+    ∙ ap (λ p. text place x ++ (each_from text (place + 1) (take n xs) ++ each_from text p (drop n xs))) same
+    ∙ sym (append_assoc (text place x) (each_from text (place + 1) (take n xs)) (each_from text (place + suc n)
+    (drop n xs)))
+
+none_from : {A : Type 0} (text : ℕ → A → List ℕ) (place : ℕ) (xs : List A)
+    → ((k : ℕ) (d : A) → k < length xs → text (place + k) (get_or xs k d) ≡ []) → each_from text place xs ≡ []
+none_from text place [] none = refl
+none_from text place (x ∷ xs) none =
+    let here : place + 0 ≡ place = omega arith in
+    let first : text place x ≡ [] = subst (λ p. text p x ≡ []) here (none 0 x (omega arith)) in
+    let others : each_from text (place + 1) xs ≡ [] = none_from text (place + 1) xs (λ k d below.
+    let same : place + suc k ≡ place + 1 + k = omega arith in
+    subst (λ p. text p (get_or xs k d) ≡ []) same (none (suc k) d (omega (arith, below)))) in
+    ap (λ t. t ++ each_from text (place + 1) xs) first ∙ others
+
+-- Before a row nothing is written, and behind a row nothing.
+pub none_before : {A : Type 0} (text : ℕ → A → List ℕ) (n : ℕ) (xs : List A)
+    → ((k : ℕ) (d : A) → k < n → k < length xs → text k (get_or xs k d) ≡ []) → each_from text 0 (take n xs) ≡ []
+none_before text n xs none = none_from text 0 (take n xs) (λ k d below.
+    let short : k < length xs = omega (arith, length-take n xs, below) in
+    let before : k < n = omega (arith, length-take n xs, below) in
+    let same : 0 + k ≡ k = omega arith in
+    ap (λ p. text p (get_or (take n xs) k d)) same ∙ ap (text k) (get_or-take n xs k d before) ∙ none k d before short)
+
+pub none_behind : {A : Type 0} (text : ℕ → A → List ℕ) (n : ℕ) (xs : List A)
+    → ((k : ℕ) (d : A) → n ≤ k → k < length xs → text k (get_or xs k d) ≡ [])
+    → each_from text 0 (take n xs) ≡ each_from text 0 xs
+none_behind text n xs none =
+    let behind : each_from text (0 + n) (drop n xs) ≡ [] = none_from text (0 + n) (drop n xs) (λ k d below.
+    let inside : n + k < length xs = omega (arith, length-drop n xs, below) in
+    let same : 0 + n + k ≡ n + k = omega arith in
+    ap (λ p. text p (get_or (drop n xs) k d)) same ∙ ap (text (n + k)) (get_or-drop n xs k d)
+    ∙ none (n + k) d (omega arith) inside) in
+    sym (append-nil (each_from text 0 (take n xs))) ∙ ap (λ t. each_from text 0 (take n xs) ++ t) (sym behind)
+    ∙ sym (seam text 0 n xs)
+
+-- One that isn't shown in a band has no text.
+unshown : (widths : Widths) (marks : Marks) (view : View) (band : Band) (k : ℕ) (row : Row)
+    → shows (within view band) row ≡ false → row_text widths marks view band k row ≡ []
+unshown widths marks view band k row is = rw is refl
+
+over_unshown : (view : View) (band : Band) (row : Row) → is_before (last_place row) band.from ≡ true
+    → shows (within view band) row ≡ false
+over_unshown view band row is = grind (arith, nat_tests, common_steps, is)
+
+late_unshown : (view : View) (band : Band) (row : Row) → band.to < row.fetched → shows (within view band) row ≡ false
+late_unshown view band row is = grind (arith, nat_tests, common_steps, is)
+
+module _ (widths : Widths) (marks : Marks) (view : View) (band : Band) (rows : List Row) (old : Option (List ℕ)) where
+  pub none_so_far : (first : ℕ) → AreOver rows first band.from
+      → Appends old old (each_from (row_text widths marks view band) 0 (take first rows))
+  none_so_far first over =
+      let none : each_from (row_text widths marks view band) 0 (take first rows) ≡ [] =
+      none_before (row_text widths marks view band) first rows (λ k d before below.
+      unshown widths marks view band k (get_or rows k d)
+      (over_unshown view band (get_or rows k d) (over k d (omega arith) before))) in
+      subst (λ t. Appends old old t) (sym none) (appends_none old)
+
+  pub none_later : (i : ℕ) (e : Row) (new : Option (List ℕ)) → AreByFetch rows → i < length rows
+      → band.to < (get_or rows i e).fetched
+      → Appends old new (each_from (row_text widths marks view band) 0 (take i rows))
+      → Appends old new (each_from (row_text widths marks view band) 0 rows)
+  none_later i e new by inside late written =
+      let none : each_from (row_text widths marks view band) 0 (take i rows)
+      ≡ each_from (row_text widths marks view band) 0 rows =
+      none_behind (row_text widths marks view band) i rows (λ k d least below.
+      unshown widths marks view band k (get_or rows k d) (late_unshown view band (get_or rows k d)
+      (omega (
+        arith,
+        subst (λ (row : Row). band.to < row.fetched) (get_or_default rows i e d inside) late,
+        by i k d least below,
+      )))) in
+      subst (λ t. Appends old new t) none written
+
+-- A row's line is written where something of it is shown in the band.
+pub next_row : (widths : Widths) (marks : Marks) (view : View) (band : Band) (rows : List Row) (shown : View)
+    (old mid new : Option (List ℕ)) (i : ℕ) (d : Row) → i < length rows → shown ≡ within view band
+    → Appends old mid (each_from (row_text widths marks view band) 0 (take i rows))
+    → Appends mid new (if shows shown (get_or rows i d) then line_text widths marks band i (get_or rows i d) else [])
+    → Appends old new (each_from (row_text widths marks view band) 0 (take (i + 1) rows))
+next_row widths marks view band rows shown old mid new i d inside same before written =
+    each_step (row_text widths marks view band) old mid new rows i d inside before
+    (subst (λ (v : View). Appends mid new
+    (if shows v (get_or rows i d) then line_text widths marks band i (get_or rows i d) else [])) same written)
+
+-- ---- The bands
+
+one_more_band : (widths : Widths) (marks : Marks) (view : View) (rows : List Row) (columns number : ℕ)
+    (old gap mid new : Option (List ℕ)) → Appends old gap (bands_text widths marks view rows columns number)
+    → Appends gap mid (gap_before number)
+    → Appends mid new (band_text widths marks view rows (band_of view columns number))
+    → Appends old new (bands_text widths marks view rows columns (number + 1))
+one_more_band widths marks view rows columns number old gap mid new before apart next =
+    let more : number + 1 ≡ suc number = omega arith in
+    subst (λ n. Appends old new (bands_text widths marks view rows columns n)) (sym more)
+    (appends_more old gap new _ _ before (appends_more gap mid new _ _ apart next))
+
+module _ (widths : Widths) (marks : Marks) (view : View) (rows : List Row) (columns : ℕ) (old : Option (List ℕ)) where
+  pub no_band : (gap : Option (List ℕ)) → gap ≡ old → Appends old gap (bands_text widths marks view rows columns 0)
+  no_band gap same = subst (λ (g : Option (List ℕ)). Appends old g []) (sym same) (appends_none old)
+
+  pub next_band : (number bands first next : ℕ) (band : Band) (gap mid new : Option (List ℕ)) → number < bands
+      → 1 < columns → (1 < columns → bands ≡ bands_of view columns)
+      → (number < bands_of view columns → band ≡ band_of view columns number)
+      → AreOver rows first (view.from + number * columns) → AreOverBefore rows first next band.from
+      → (AreByFetch rows → Appends old gap (bands_text widths marks view rows columns number))
+      → Appends gap mid (gap_before number)
+      → (AreByFetch rows → AreOver rows next band.from
+      → Appends mid new (band_text widths marks view rows band))
+      → (AreByFetch rows → Appends old new (bands_text widths marks view rows columns (number + 1)))
+      × AreOver rows next (view.from + (number + 1) * columns)
+  next_band number bands first next band gap mid new below wide many is before more written apart told =
+      let same : band ≡ band_of view columns number =
+      is (subst (λ (n : ℕ). number < n) (many wide) below) in
+      let begins : band.from ≡ view.from + number * columns = ap (λ (b : Band). b.from) same in
+      let over : AreOver rows next band.from = over_from rows first next band.from
+      (subst (λ (n : ℕ). AreOver rows first n) (sym begins) before) more in
+      let later : view.from + number * columns ≤ view.from + (number + 1) * columns = grind arith in (
+        λ by. one_more_band widths marks view rows columns number old gap mid new (written by) apart
+            (subst (λ (b : Band). Appends mid new (band_text widths marks view rows b)) same (told by over)),
+        over_later rows next (view.from + number * columns) (view.from + (number + 1) * columns) later
+            (subst (λ (n : ℕ). AreOver rows next n) begins over),
+      )
+
+pub chart_done : (width : ℕ) (widths : Widths) (marks : Marks) (view : View) (rows : List Row) (columns number : ℕ)
+    (old new : Option (List ℕ)) → widths ≡ widths_of view marks rows → columns ≡ columns_in width widths
+    → number ≡ bands_of view columns → Appends old new (bands_text widths marks view rows columns number)
+    → Appends old new (chart_text width marks view rows)
+chart_done width widths marks view rows columns number old new wide beside all written =
+    subst (λ (w : Widths). Appends old new (chart_by (columns_in width w) w marks view rows)) wide
+    (subst (λ (n : ℕ). Appends old new (chart_by n widths marks view rows)) beside
+    (subst (λ (n : ℕ). Appends old new (bands_text widths marks view rows columns n)) all written))

@@ -1,0 +1,10 @@
+use Rattle.std.proofs.Common.{map}
+use Rattle.charts.specs.{Cells.letter_at, Views.last_place}
+use Rattle.charts.specs.Text.{cells_text, last_column, places}
+use Rattle.charts.proofs.Lines.{IsLeft}
+use Rattle.charts.proofs.text.write_cells.Given as goal
+
+-- the letters from this place on are left
+abbrev pub invariant-loop-place : goal.invariant-loop-place
+invariant-loop-place g l = IsLeft (g.W.Write.contents l.fn.out) (g.W.Write.contents l.out)
+    (map (letter_at l.row) (places l.place (last_column l.band (last_place l.row)))) (cells_text l.row l.band)

@@ -1,0 +1,177 @@
+-- A chart as text: a row an instruction, a column an event, cut into bands that fit a line. (This project's own choice;
+-- docs/FORMATS.md, "The chart".)
+use Rattle.std.specs.Prelude.{ℕ, zero, suc, ◌+◌, ◌-◌, ◌*◌, ◌/◌, ◌%◌, ◌^◌, ◌==◌, min, max, Bool, false, ◌&&◌, nat_le, nat_lt}
+use Rattle.std.specs.Prelude.{if◌then◌else◌, List, [], ◌∷◌, ◌++◌, codes, filter, length, map, replicate, Option, None, Some}
+use Rattle.std.specs.{Fmt.decimal, List.range_with_len}
+use Rattle.text_fields.specs.{Each.each_from, Spelling.hex}
+use Rattle.rv_instr.specs.{declared.op.Op.Op, declared.op.Op.TheVariants.Known, declared.op.Op.TheVariants.Illegal}
+use Rattle.rv_instr.specs.{declared.op.Op.TheVariants.NoWord, Decode.op_of_word}
+use Rattle.rv_text.specs.Spelling.{spelling_of}
+use Rattle.address_labels.specs.{Labels.Marks, Texts.labels_text, Texts.label_width}
+use Rattle.address_labels.specs.declared.writing.Form.{Form}
+use Rattle.address_labels.specs.declared.writing.Form.TheVariants.{Word}
+use Rattle.charts.specs.{declared.row.Row.Row, declared.row.Squash.Squash, declared.view.View.View}
+use Rattle.charts.specs.{declared.view.Band.Band, declared.label.Widths.Widths}
+use Rattle.charts.specs.{Cells.letter_at, Views.shows, Views.last_place}
+
+-- ---- The name of a row
+
+abbrev pub spaces : ℕ → List ℕ
+spaces count = replicate count 32
+
+-- A text to the right of so many places, and a space; and to the left of them.
+abbrev pub to_right : ℕ → List ℕ → List ℕ
+to_right places text = spaces (places - length text) ++ (text ++ 32 ∷ [])
+
+abbrev pub to_left : ℕ → List ℕ → List ℕ
+to_left places text = text ++ spaces (places - length text)
+
+-- The instruction of a row as a listing spells it; a dash where there is no word.
+abbrev pub op_text : Op → ℕ → List ℕ
+op_text (Known instr) pc = spelling_of instr pc
+op_text Illegal pc = codes ".word"
+op_text NoWord pc = codes "-"
+
+abbrev pub instruction_text : Row → List ℕ
+instruction_text row = op_text (op_of_word row.word) row.pc
+
+-- What is wanted beside its pc, as wide as it is in a line of text.
+abbrev pub label_text : Form → ℕ → Marks → ℕ → List ℕ
+label_text form places marks pc = labels_text form marks pc ++ spaces (places - label_width marks pc)
+
+-- Hart, number, pc, instruction, and what is wanted beside the pc, with a space behind each.
+unfoldable pub name_text : Form → Widths → Marks → ℕ → Row → List ℕ
+name_text form widths marks number row =
+    to_right widths.hart (decimal row.hart)
+    ++ (to_right widths.number (decimal number)
+    ++ ((hex 8 row.pc ++ 32 ∷ [])
+    ++ (to_left widths.instruction (instruction_text row)
+    ++ (label_text form widths.labels marks row.pc ++ 32 ∷ []))))
+
+-- ---- How wide names are: as wide as the widest of the rows that are drawn, and as the greatest number of all
+
+abbrev pub digits : ℕ → ℕ
+digits number = length (decimal number)
+
+-- As wide, or as wide as the name of one more row.
+abbrev pub widened : Marks → Row → Widths → Widths
+widened marks row widths = record {
+  hart = max widths.hart (digits row.hart);
+  number = widths.number;
+  instruction = max widths.instruction (length (instruction_text row));
+  labels = max widths.labels (label_width marks row.pc);
+}
+
+abbrev pub widened_over : Marks → Widths → List Row → Widths
+widened_over marks widths [] = widths
+widened_over marks widths (row ∷ rows) = widened_over marks (widened marks row widths) rows
+
+abbrev pub widths_of : View → Marks → List Row → Widths
+widths_of view marks rows = widened_over marks
+    (record { hart = 1; number = digits (length rows - 1); instruction = 0; labels = 0 }) (filter (shows view) rows)
+
+-- Of a name, eight digits for the pc and four spaces; and of what may stand behind a row: ` by ` and a number, or
+-- ` replayed`.
+abbrev pub name_width : Widths → ℕ
+name_width widths = widths.hart + widths.number + widths.instruction + widths.labels + 12
+
+abbrev pub remark_width : Widths → ℕ
+remark_width widths = max (widths.number + 4) 9
+
+-- ---- The bands
+
+-- As many columns as fit beside both in a line of so many characters, and ten at least.
+abbrev pub columns_in : ℕ → Widths → ℕ
+columns_in width widths = max (width - name_width widths - remark_width widths) 10
+
+abbrev pub bands_of : View → ℕ → ℕ
+bands_of view columns = if nat_lt view.to view.from then 0 else (view.to - view.from) / columns + 1
+
+abbrev pub band_of : View → ℕ → ℕ → Band
+band_of view columns number = record {
+  from = view.from + number * columns;
+  to = min (view.from + number * columns + (columns - 1)) view.to;
+}
+
+abbrev pub within : View → Band → View
+within view band = record { from = band.from; to = band.to; hart = view.hart }
+
+-- The places from one to another.
+abbrev pub places : ℕ → ℕ → List ℕ
+places from to = range_with_len from (suc to - from)
+
+-- The number of every tenth event, beginning over its column, where there is room for it: what stands over the columns
+-- from this one on, of which the first may be taken.
+abbrev pub is_numbered : ℕ → ℕ → Bool
+is_numbered column place = place % 10 == 0 && nat_le column place
+
+abbrev pub number_over : ℕ → ℕ → List ℕ
+number_over column place = if is_numbered column place then spaces (place - column) ++ decimal place else []
+
+abbrev pub column_behind : ℕ → ℕ → ℕ
+column_behind column place = if is_numbered column place then place + digits place else column
+
+abbrev pub ruler_from : ℕ → List ℕ → List ℕ
+ruler_from column [] = []
+ruler_from column (place ∷ others) = number_over column place ++ ruler_from (column_behind column place) others
+
+unfoldable pub ruler_text : Band → Widths → List ℕ
+ruler_text band widths =
+    spaces (name_width widths) ++ (ruler_from band.from (places band.from band.to) ++ 10 ∷ [])
+
+-- ---- The rows of a band
+
+-- Its letters end with the last that stands in the row.
+abbrev pub last_column : Band → Option ℕ → ℕ
+last_column band None = band.to
+last_column band (Some last) = min last band.to
+
+abbrev pub cells_text : Row → Band → List ℕ
+cells_text row band = map (letter_at row) (places band.from (last_column band (last_place row)))
+
+-- The place stands in the band.
+abbrev pub has_place : Band → Option ℕ → Bool
+has_place band None = false
+has_place band (Some place) = nat_le band.from place && nat_le place band.to
+
+abbrev pub by_text : Band → Option Squash → List ℕ
+by_text band None = []
+by_text band (Some squash) =
+    if has_place band (Some squash.place) then codes " by " ++ decimal squash.by else []
+
+abbrev pub replayed_text : Band → Row → List ℕ
+replayed_text band row = if row.replayed && has_place band row.retired then codes " replayed" else []
+
+unfoldable pub remark_text : Row → Band → List ℕ
+remark_text row band = by_text band row.squashed ++ (replayed_text band row ++ 10 ∷ [])
+
+unfoldable pub line_text : Widths → Marks → Band → ℕ → Row → List ℕ
+line_text widths marks band number row =
+    name_text Word widths marks number row ++ (cells_text row band ++ remark_text row band)
+
+-- Each row that something stands of in the band, with its number.
+abbrev pub row_text : Widths → Marks → View → Band → ℕ → Row → List ℕ
+row_text widths marks view band number row =
+    if shows (within view band) row then line_text widths marks band number row else []
+
+unfoldable pub band_text : Widths → Marks → View → List Row → Band → List ℕ
+band_text widths marks view rows band =
+    ruler_text band widths ++ each_from (row_text widths marks view band) 0 rows
+
+-- ---- The whole chart
+
+-- An empty line stands between two bands: so the first of them, each with its number.
+abbrev pub gap_before : ℕ → List ℕ
+gap_before number = if number == 0 then [] else 10 ∷ []
+
+abbrev pub bands_text : Widths → Marks → View → List Row → ℕ → ℕ → List ℕ
+bands_text widths marks view rows columns zero = []
+bands_text widths marks view rows columns (suc number) = bands_text widths marks view rows columns number
+    ++ (gap_before number ++ band_text widths marks view rows (band_of view columns number))
+
+abbrev pub chart_by : ℕ → Widths → Marks → View → List Row → List ℕ
+chart_by columns widths marks view rows = bands_text widths marks view rows columns (bands_of view columns)
+
+abbrev pub chart_text : ℕ → Marks → View → List Row → List ℕ
+chart_text width marks view rows = let widths = widths_of view marks rows in
+    chart_by (columns_in width widths) widths marks view rows
