@@ -1,7 +1,7 @@
 -- Lines of several litmus tests.
-use Rattle.std.specs.Prelude.{◌≡◌, ◌⊎◌, ℕ, List, [], ◌∷◌, Option, Some, None, Ok, Err}
+use Rattle.std.specs.Prelude.{◌≡◌, ◌⊎◌, ℕ, true, List, [], ◌∷◌, length, Option, Some, None, Ok, Err}
 use Rattle.std.specs.Borrow.{Bor}
-use Rattle.std.proofs.Common.{refl, sym}
+use Rattle.std.proofs.Common.{refl, sym, ap, subst}
 use mathlib.Core.Logic.{inl, inr}
 use Rattle.sim_inputs.specs.declared.line.Line.{Line}
 use Rattle.sim_inputs.specs.declared.line.LitmusCommand.{LitmusCommand}
@@ -16,59 +16,68 @@ use Rattle.commands.specs.Suites.{SuiteLineComesTo}
 use Rattle.sim_inputs.specs.declared.settings.Settings.{Settings}
 use Rattle.commands.specs.declared.suites.SuiteRefused.TheVariants as refused
 use Rattle.litmus_suites.specs.Sources.{GivenTest}
-use Rattle.program_io.specs.Performed.{HasTested, IsReadAs, SuiteHasCome, SuiteIsRefused}
+use Rattle.sim_inputs.specs.SeveralTests.{tests_named}
+use Rattle.program_io.specs.Names.{IsGiven, IsHeard}
+use Rattle.program_io.specs.Performed.{HasTested, IsReadAs, SuiteHasCome, SuiteIsRefused, may_be_several}
 
 -- A file may be read as an empty one, where nothing else is known of it.
 read_empty : (name : Option (Bor (List ℕ))) → IsReadAs name (Ok [])
 read_empty None = refl
 read_empty (Some name) = tt
 
--- What is told of the tests of a source holds of the texts alone.
-abbrev any_given : Unit {0} → Option GivenTest → Unit {0} → Type 0
-any_given source given after = Unit {0}
+-- What is told of the tests of a source holds of how many of its names haven't come to anything.
+abbrev Gives : {S : Type 0} (names : S → ℕ) (gives : S → Option GivenTest → S → Type 0) → Type 0
+Gives {S} names gives = (source : S) (given : Option GivenTest) (after : S) → gives source given after
+    → IsGiven (names source) given (names after)
 
-abbrev any_heard : Unit {0} → Refused → Unit {0} → Type 0
-any_heard source why after = Unit {0}
+abbrev Hears : {S : Type 0} (names : S → ℕ) (hears : S → Refused → S → Type 0) → Type 0
+Hears {S} names hears = (source : S) (why : Refused) (after : S) → hears source why after
+    → IsHeard (names source) why (names after)
 
-one_came : {S : Type 0} (hears : S → Refused → S → Type 0) (settings : Settings) (command : LitmusCommand)
-    (given : GivenTest) (source left : S) (before after : Telling) (old new : Option (List ℕ)) (status : ℕ)
+one_came : {S : Type 0} (names : S → ℕ) (hears : S → Refused → S → Type 0) → Hears names hears
+    → (settings : Settings) (command : LitmusCommand) (given : GivenTest) (source left : S) (before after : Telling)
+    (old new : Option (List ℕ)) (status : ℕ)
     → CameOf hears settings command given source left before after old new status
-    → CameOf any_heard settings command given tt tt before after old new status
-one_came hears settings command (Ok text) source left before after old new status came = elim came [
-  | inl made ↦ inl (refl, made.1)
+    → CameOf IsHeard settings command given (names source) (names left) before after old new status
+one_came names hears heard settings command (Ok text) source left before after old new status came = elim came [
+  | inl made ↦ inl (ap names made.0, made.1)
   | inr none ↦
       inr (record {
         reason = none.reason;
         refusal = none.refusal;
-        heard = tt;
+        heard = heard source none.reason left none.heard;
         counts = none.counts;
         unprinted = none.unprinted;
         is = none.is;
       })
 ]
-one_came hears settings command (Err why) source left before after old new status came = (refl, came.1, came.2, came.3)
+one_came names hears heard settings command (Err why) source left before after old new status came =
+    (ap names came.0, came.1, came.2, came.3)
 
-all_came : {S : Type 0} (gives : S → Option GivenTest → S → Type 0) (hears : S → Refused → S → Type 0)
-    (settings : Settings) (command : LitmusCommand) (tests : List (GivenTest × ℕ)) (source left : S)
+all_came : {S : Type 0} (names : S → ℕ) (gives : S → Option GivenTest → S → Type 0)
+    (hears : S → Refused → S → Type 0) → Gives names gives → Hears names hears
+    → (settings : Settings) (command : LitmusCommand) (tests : List (GivenTest × ℕ)) (source left : S)
     (before after : Telling) (old new : Option (List ℕ))
     → HaveCome gives hears settings command tests source left before after old new
-    → HaveCome any_given any_heard settings command tests tt tt before after old new
-all_came gives hears settings command [] source left before after old new came = (refl, came.1, came.2)
-all_came gives hears settings command (test ∷ past) source left before after old new came = (
-  tt,
-  tt,
+    → HaveCome IsGiven IsHeard settings command tests (names source) (names left) before after old new
+all_came names gives hears given heard settings command [] source left before after old new came =
+    (ap names came.0, came.1, came.2)
+all_came names gives hears given heard settings command (test ∷ past) source left before after old new came = (
+  names came.0,
+  names came.1,
   came.2,
   came.3,
-  all_came gives hears settings command past source came.0 before came.2 old came.3 came.4,
-  tt,
-  one_came hears settings command test.0 came.1 left came.2 after came.3 new test.1 came.6,
+  all_came names gives hears given heard settings command past source came.0 before came.2 old came.3 came.4,
+  given came.0 (Some test.0) came.1 came.5,
+  one_came names hears heard settings command test.0 came.1 left came.2 after came.3 new test.1 came.6,
 )
 
-suite_came : {S : Type 0} (gives : S → Option GivenTest → S → Type 0) (hears : S → Refused → S → Type 0)
-    (settings : Settings) (command : LitmusCommand) (source left : S) (telling : Telling) (old new : Option (List ℕ))
+suite_came : {S : Type 0} (names : S → ℕ) (gives : S → Option GivenTest → S → Type 0)
+    (hears : S → Refused → S → Type 0) → Gives names gives → Hears names hears
+    → (settings : Settings) (command : LitmusCommand) (source left : S) (telling : Telling) (old new : Option (List ℕ))
     (status : ℕ) → SuiteComesTo gives hears settings command source left telling old new status
-    → SuiteComesTo any_given any_heard settings command tt tt telling old new status
-suite_came gives hears settings command source left telling old new status came = record {
+    → SuiteComesTo IsGiven IsHeard settings command (names source) 0 telling old new status
+suite_came names gives hears given heard settings command source left telling old new status came = record {
   after = came.after;
   mid = came.mid;
   printed = came.printed;
@@ -76,10 +85,10 @@ suite_came gives hears settings command source left telling old new status came 
   last = came.last;
   all = record {
     tests = came.all.tests;
-    last = tt;
-    come = all_came gives hears settings command came.all.tests source came.all.last telling came.after old came.mid
-        came.all.come;
-    ended = tt;
+    last = names came.all.last;
+    come = all_came names gives hears given heard settings command came.all.tests source came.all.last telling came.after
+        old came.mid came.all.come;
+    ended = given came.all.last None left came.all.ended;
     worst_is = came.all.worst_is;
   };
   finished = came.finished;
@@ -87,23 +96,34 @@ suite_came gives hears settings command source left telling old new status came 
   is = came.is;
 }
 
-pub line_came : {S : Type 0} (gives : S → Option GivenTest → S → Type 0) (hears : S → Refused → S → Type 0)
-    (litmus : LitmusCommand) (config summary : Read) (source left : S) (old new : Option (List ℕ)) (status : ℕ)
+pub line_came : {S : Type 0} (names : S → ℕ) (gives : S → Option GivenTest → S → Type 0)
+    (hears : S → Refused → S → Type 0)
+    → ((source : S) (given : Option GivenTest) (after : S) → gives source given after
+    → IsGiven (names source) given (names after))
+    → ((source : S) (why : Refused) (after : S) → hears source why after
+    → IsHeard (names source) why (names after))
+    → (litmus : LitmusCommand) (config summary : Read) (source left : S) (old new : Option (List ℕ)) (status : ℕ)
     → SuiteLineComesTo gives hears litmus config summary source left old new status
-    → SuiteHasCome litmus config summary old new status
-line_came gives hears litmus (Ok text) summary source left old new status came = (
+    → SuiteHasCome litmus (names source) config summary old new status
+line_came names gives hears given heard litmus (Ok text) summary source left old new status came = (
   came.0,
   came.1,
-  (came.2.0, came.2.1, suite_came gives hears came.0 litmus source left came.2.0 old new status came.2.2),
+  (
+    came.2.0,
+    came.2.1,
+    suite_came names gives hears given heard came.0 litmus source left came.2.0 old new status came.2.2,
+  ),
 )
-line_came gives hears litmus (Err why) summary source left old new status came = absurd came
+line_came names gives hears given heard litmus (Err why) summary source left old new status came = absurd came
 
 -- There is no memory for the names of the tests.
-pub nameless : (line : Line) (litmus : LitmusCommand) (old new : Option (List ℕ)) (status : ℕ)
-    → line.command ≡ Litmus litmus → status ≡ exit_status_of Memory → HasTested line old new status
-nameless line litmus old new status is_litmus is = record {
+pub nameless : (words : List (List ℕ)) (line : Line) (litmus : LitmusCommand) (old new : Option (List ℕ)) (status : ℕ)
+    → line.command ≡ Litmus litmus → may_be_several litmus ≡ true → status ≡ exit_status_of Memory
+    → HasTested words line old new status
+nameless words line litmus old new status is_litmus several is = record {
   litmus = litmus;
   is_litmus = is_litmus;
+  several = several;
   config = Ok [];
   summary = Ok [];
   has_config = read_empty (files_of line).config;
@@ -112,19 +132,26 @@ nameless line litmus old new status is_litmus is = record {
   ended = inl (record { why = refused.Line Memory; has_status = sym is; refused = tt });
 }
 
--- The tests were made, with these files.
-pub tested : (line : Line) (litmus : LitmusCommand) (old new : Option (List ℕ)) (status : ℕ) (config summary : Read)
-    → line.command ≡ Litmus litmus → IsReadAs (files_of line).config config
+-- The tests of so many names were made, with these files.
+pub tested : (words : List (List ℕ)) (line : Line) (litmus : LitmusCommand) (names : ℕ) (old new : Option (List ℕ))
+    (status : ℕ) (config summary : Read) → line.command ≡ Litmus litmus → may_be_several litmus ≡ true
+    → names ≡ length (tests_named words) → IsReadAs (files_of line).config config
     → IsReadAs (files_of line).second summary → IsKnown status
-    → SuiteIsRefused litmus config summary status ⊎ SuiteHasCome litmus config summary old new status
-    → HasTested line old new status
-tested line litmus old new status config summary is_litmus has_config has_summary known ended = record {
-  litmus = litmus;
-  is_litmus = is_litmus;
-  config = config;
-  summary = summary;
-  has_config = has_config;
-  has_summary = has_summary;
-  known = known;
-  ended = ended;
-}
+    → SuiteIsRefused litmus config summary status ⊎ SuiteHasCome litmus names config summary old new status
+    → HasTested words line old new status
+tested words line litmus names old new status config summary is_litmus several named has_config has_summary known ended =
+    record {
+      litmus = litmus;
+      is_litmus = is_litmus;
+      several = several;
+      config = config;
+      summary = summary;
+      has_config = has_config;
+      has_summary = has_summary;
+      known = known;
+      ended =
+          subst
+          (λ (n : ℕ).
+          SuiteIsRefused litmus config summary status ⊎ SuiteHasCome litmus n config summary old new status)
+          named ended;
+    }

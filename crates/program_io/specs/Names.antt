@@ -2,6 +2,7 @@
 -- project's own choice.)
 use Rattle.std.specs.Prelude.{◌≡◌, ℕ, ◌+◌, ◌-◌, ◌≤◌, if◌then◌else◌, List, length, count_by, Option, None, Some}
 use Rattle.litmus_suites.specs.Sources.{GivenTest}
+use Rattle.command_parts.specs.declared.refused.Refused.{Refused}
 use Rattle.program_io.specs.declared.test_folder.TestFolder.{TestFolder}
 use Rattle.program_io.specs.declared.test_list.TestList.{TestList}
 use Rattle.program_io.specs.declared.test_names.TestNames.{TestNames}
@@ -26,3 +27,7 @@ owed names = owed_of_names names + owed_of_folder names.folder
 abbrev pub IsGiven : ℕ → Option GivenTest → ℕ → Type 0
 IsGiven names None left = names ≡ 0
 IsGiven names (Some given) left = names ≤ left + 1
+
+-- A refusal that is told to it leaves them so.
+abbrev pub IsHeard : ℕ → Refused → ℕ → Type 0
+IsHeard names refused left = left ≡ names

@@ -1,5 +1,6 @@
 -- What comes of the program's words. (This project's own choice.)
-use Rattle.std.specs.Prelude.{◌≡◌, ◌⊎◌, ℕ, Bool, false, ◌&&◌, IsTrue, List, [], Option, Some, None, IfNone}
+use Rattle.std.specs.Prelude.{◌≡◌, ◌⊎◌, ℕ, Bool, true, false, ◌&&◌, ◌||◌, not, IsTrue, List, [], length}
+use Rattle.std.specs.Prelude.{Option, Some, None, IfNone}
 use Rattle.std.specs.Prelude.{Result, Ok, Err, Vec, is_some, if◌then◌else◌}
 use Rattle.std.specs.Borrow.{Bor}
 use Rattle.sim_inputs.specs.{declared.line.Line.Line, declared.line.WordsRefused.WordsRefused}
@@ -12,7 +13,8 @@ use Rattle.commands.specs.Suites.{IsSuiteLineRefusal, suite_status_of}
 use Rattle.commands.specs.declared.suites.SuiteRefused.{SuiteRefused}
 use Rattle.sim_inputs.specs.declared.line.ProgramCommand.TheVariants.{Step}
 use Rattle.sim_inputs.specs.declared.line.StepCommand.{StepCommand}
-use Rattle.sim_inputs.specs.Files.{files_of, is_standard_input, reads_words}
+use Rattle.sim_inputs.specs.Files.{files_of, is_standard_input, reads_words, written_for_test}
+use Rattle.sim_inputs.specs.SeveralTests.{is_summed, tests_named}
 use Rattle.scripts.specs.Comments.{uncommented}
 use Rattle.report_lines.specs.Statuses.{says_harts}
 use Rattle.command_parts.specs.{declared.refused.Refused.Refused}
@@ -20,6 +22,7 @@ use Rattle.command_parts.specs.{Inputs.Read, Refused.exit_status_of}
 use Rattle.commands.specs.{Perform.IsRefusal}
 use Rattle.program_io.specs.{declared.files.ReadRefused.ReadRefused, Files.unread_for}
 use Rattle.program_io.specs.Words.{IsWordsStatus, HaveTold}
+use Rattle.program_io.specs.Names.{IsGiven, IsHeard}
 use Rattle.program_io.specs.declared.performing.Program.{Program}
 use Rattle.commands.specs.{Perform.LineComesTo, Typed.StepIsTyped, Suites.SuiteLineComesTo}
 use Rattle.commands.specs.Written.{ToWrite, TraceOf, IsWritten}
@@ -91,35 +94,48 @@ pub record HasPerformed {F S G P : Type 0} (has_failed : F → Bool) (predicts :
       × (exit_status_of reason ≡ status)
       × IsRefusal line.harts line.command config program (uncommented_for line.command second) lines reason
 
--- What a line of litmus tests came to, which may be several, with its other files as they were read: the line itself was
--- refused, or what was printed is what some tests come to, of some texts. (Of where they come from nothing is said, nor
--- that there are any.)
-abbrev pub SuiteHasCome : LitmusCommand → Read → Read → Option (List ℕ) → Option (List ℕ) → ℕ → Type 0
-SuiteHasCome litmus config summary old new status = SuiteLineComesTo {S = Unit {0}} (λ source given after. Unit {0})
-    (λ source refused after. Unit {0}) litmus config summary tt tt old new status
+-- The tests of a line are several: they have more names than one, or one of a list, or lines are printed of them in place
+-- of states.
+abbrev pub has_several : Command → Bool
+has_several (Litmus litmus) = litmus.several || is_summed litmus
+has_several _ = false
+
+-- They may be: one name may be that of a folder, but where a file is written of its test, or that is run.
+abbrev pub may_be_several : LitmusCommand → Bool
+may_be_several litmus = (litmus.several || is_summed litmus)
+    || not (is_some (written_for_test litmus) || is_some litmus.run)
+
+-- What a line of litmus tests of so many names came to, with its other files as they were read: each name has come to a
+-- test at least, or to why it is none, and what was printed is what these come to, of some texts.
+abbrev pub SuiteHasCome : LitmusCommand → ℕ → Read → Read → Option (List ℕ) → Option (List ℕ) → ℕ → Type 0
+SuiteHasCome litmus names config summary old new status =
+    SuiteLineComesTo IsGiven IsHeard litmus config summary names 0 old new status
 
 pub record SuiteIsRefused (litmus : LitmusCommand) (config summary : Read) (status : ℕ) : Type 0 where
   pub why : SuiteRefused
   pub has_status : suite_status_of why ≡ status
   pub refused : IsSuiteLineRefusal litmus config summary why
 
-pub record HasTested (line : Line) (old new : Option (List ℕ)) (status : ℕ) : Type 0 where
+-- The names are those of the words that asked for the line.
+pub record HasTested (words : List (List ℕ)) (line : Line) (old new : Option (List ℕ)) (status : ℕ) : Type 0 where
   pub litmus : LitmusCommand
   pub is_litmus : line.command ≡ Litmus litmus
+  pub several : may_be_several litmus ≡ true
   pub config : Read
   pub summary : Read
   pub has_config : IsReadAs (files_of line).config config
   pub has_summary : IsReadAs (files_of line).second summary
   pub known : IsKnown status
   pub ended : SuiteIsRefused litmus config summary status
-      ⊎ SuiteHasCome litmus config summary old new status
+      ⊎ SuiteHasCome litmus (length (tests_named words)) config summary old new status
 
 -- Words asked for a line, and it was performed with this exit status.
 pub record HavePerformed {F S G P : Type 0} (has_failed : F → Bool) (predicts : P → ℕ → ℕ → ℕ → ℕ → P → Type 0)
     (by : Program S G P) (words : List (List ℕ)) (old new : Option (List ℕ)) (status : ℕ) : Type 0 where
   pub line : Line
   pub asked : Asks words line
-  pub performed : HasPerformed has_failed predicts by line old new status ⊎ HasTested line old new status
+  pub performed : ((has_several line.command ≡ false) × HasPerformed has_failed predicts by line old new status)
+      ⊎ HasTested words line old new status
 
 -- Words were refused with this exit status, and help and the version are printed.
 pub record AreRefused (words : List (List ℕ)) (old new : Option (List ℕ)) (status : ℕ) : Type 0 where

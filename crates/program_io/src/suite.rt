@@ -1,9 +1,12 @@
 //! A line that names several litmus tests, or asks for what they come to in lines.
 
-ghost use Rattle.std.specs.Prelude.{◌≡◌, ◌⊎◌, IfSome};
+ghost use Rattle.std.specs.Prelude.{◌≡◌, ◌⊎◌, IfOk, IfSome, None, false, length, map, true};
 ghost use Rattle.sim_inputs.specs.declared.line.Command.TheVariants.{Litmus};
 ghost use Rattle.plain_commands.specs.Suite.{IsKnown};
-ghost use Rattle.program_io.specs.Performed.{HasPerformed, HasTested, SuiteHasCome, SuiteIsRefused, read_of};
+ghost use Rattle.sim_inputs.specs.SeveralTests.{tests_named};
+ghost use Rattle.program_io.specs.Names.{owed};
+ghost use Rattle.program_io.specs.Performed.{HasPerformed, HasTested, SuiteHasCome, SuiteIsRefused};
+ghost use Rattle.program_io.specs.Performed.{has_several, may_be_several, read_of};
 
 use crate::noting::Noting;
 use crate::output_files::{OutputFiles, Places};
@@ -18,7 +21,7 @@ use commands::perform_suite_line;
 use event_text::Sink;
 use sim_inputs::{Command, Line, LitmusCommand, tests_asked};
 use smt_core::Predict;
-use std::alloc::AllocError;
+use std::alloc::{AllocError, Global};
 use std::io::Write;
 use std::rt::Files;
 use std::sync::Wait;
@@ -39,9 +42,11 @@ impl<
         err: &mut E,
     ) -> Performed<Noting<W>>
         ensures known { IsKnown result.status }
-        ensures performed { HasPerformed ⟦<OutputFiles<'a, S> as Sink>⟧.has_failed P.predicts self.now line.now
-            (W.contents out.writer) (W.contents result.out.writer) result.status
-            ⊎ HasTested line.now (W.contents out.writer) (W.contents result.out.writer) result.status }
+        ensures performed { ((has_several line.now.command ≡ false)
+            × HasPerformed ⟦<OutputFiles<'a, S> as Sink>⟧.has_failed P.predicts self.now line.now
+            (W.contents out.writer) (W.contents result.out.writer) result.status)
+            ⊎ HasTested (map (λ word. word.now) words.now) line.now (W.contents out.writer)
+            (W.contents result.out.writer) result.status }
     {
         match suite_of(line, self.system) {
             Some(litmus) => self.read_and_test(line, litmus, words, out, err),
@@ -58,10 +63,12 @@ impl<
         out: Noting<W>,
         err: &mut E,
     ) -> Performed<Noting<W>>
-        requires { line.now.command ≡ Litmus litmus }
-        ensures { HasTested line.now (W.contents out.writer) (W.contents result.out.writer) result.status }
+        requires is { line.now.command ≡ Litmus litmus }
+        requires several { may_be_several litmus ≡ true }
+        ensures { HasTested (map (λ word. word.now) words.now) line.now (W.contents out.writer)
+            (W.contents result.out.writer) result.status }
     {
-        let tests = match tests_asked(words, self.alloc) {
+        let tests = match names_of(words, self.alloc) {
             Ok(tests) => tests,
             Err(AllocError) => {
                 let status = refuse(Refused::Memory, err);
@@ -112,7 +119,7 @@ impl<
     ) -> u8
         ensures known { IsKnown result }
         ensures ended { SuiteIsRefused litmus.now (read_of read.now.config) (read_of read.now.second) result
-            ⊎ SuiteHasCome litmus.now (read_of read.now.config) (read_of read.now.second)
+            ⊎ SuiteHasCome litmus.now (owed source.old.names) (read_of read.now.config) (read_of read.now.second)
             (W.contents context.old.out.writer) (W.contents context.new.out.writer) result }
     {
         let inputs = read.lent();
@@ -129,7 +136,9 @@ impl<
 /// The command of a line whose tests are several, by its words or since the one is a folder; or which asks for lines in
 /// place of states. A file is written of one test, which is read as it stands, and so is one that is run.
 fn suite_of<'a, S: Files>(line: &Line<'a>, system: &S) -> Option<LitmusCommand<'a>>
-    ensures { IfSome result (λ litmus. line.now.command ≡ Litmus litmus) }
+    ensures is { IfSome result (λ litmus. line.now.command ≡ Litmus litmus) }
+    ensures several { IfSome result (λ litmus. may_be_several litmus ≡ true) }
+    ensures one { result ≡ None → has_several line.now.command ≡ false }
 {
     let Command::Litmus(litmus) = line.command else {
         return None;
@@ -144,4 +153,11 @@ fn suite_of<'a, S: Files>(line: &Line<'a>, system: &S) -> Option<LitmusCommand<'
         return Some(litmus);
     }
     None
+}
+
+/// The names of the tests that these words ask for, as they are written. Fails only for want of memory.
+fn names_of<'a>(words: &'a [&'a str], alloc: Global) -> Result<Vec<&'a str>, AllocError>
+    ensures { IfOk result (λ names. length names.items ≡ length (tests_named (map (λ word. word.now) words.entry.now))) }
+{
+    tests_asked(words, alloc)
 }

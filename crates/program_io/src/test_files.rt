@@ -3,7 +3,7 @@
 ghost use Rattle.std.specs.Prelude.{◌≡◌, length};
 ghost use Rattle.plain_commands.specs.Suite.{IsKnown};
 ghost use Rattle.commands.specs.Suites.{suite_status_of};
-ghost use Rattle.program_io.specs.Names.{owed, IsGiven};
+ghost use Rattle.program_io.specs.Names.{owed, IsGiven, IsHeard};
 
 use crate::files::read_file;
 use crate::hinting::Hinting;
@@ -113,7 +113,7 @@ impl<S: Files + Input, E: Write> TestSource for TestFiles<'_, S, E> {
     // Each name comes to a test, or to why it is none.
     ghost gives = { λ source given after. IsGiven (owed source.names) given (owed after.names) };
 
-    ghost hears = { λ source refused after. owed after.names ≡ owed source.names };
+    ghost hears = { λ source refused after. IsHeard (owed source.names) refused (owed after.names) };
 
     fn next(&mut self) -> Option<Result<Vec<u8>, NoTest>> {
         let alloc = self.hinting.alloc;

@@ -8,4 +8,4 @@ pub returns-in-Some-clause-performed : goal.returns-in-Some-clause-performed
 returns-in-Some-clause-performed g c = inr c.read_and_test.ensures
 
 pub returns-in-None-clause-performed : goal.returns-in-None-clause-performed
-returns-in-None-clause-performed g c = inl c.read_and_perform.ensures.performed
+returns-in-None-clause-performed g c = inl (c.suite_of.ensures.one c.in-None.is, c.read_and_perform.ensures.performed)
