@@ -4,6 +4,7 @@ What is wrong with a wrong one is in its name.
 """
 
 import os
+import struct
 
 import code_images
 import memory_images
@@ -30,6 +31,26 @@ def spread(count):
     """Segments of data, 16 bytes each, behind the first 16 bytes of RAM."""
     return [(BASE + 16 * k, bytes(4), R | W, 16) for k in range(1, count + 1)]
 
+
+def with_names(file, names):
+    """The file with a table of symbols behind it: of each its name, address and kind, an object of 4 bytes or a file."""
+    sections = 4
+    texts = b"\0" + b"".join(name.encode() + b"\0" for name, _, _ in names)
+    table, at = bytes(16), 1
+    for name, address, kind in names:
+        size, section = (4, 1) if kind == OBJECT else (0, 0xFFF1)
+        table += struct.pack("<IIIBBH", at, address, size, kind, 0, section)
+        at += len(name) + 1
+    begin = len(file)
+    headers = bytes(40) + struct.pack("<10I", 0, 1, 6, BASE, 0, 0, 0, 0, 4, 0)
+    headers += struct.pack("<10I", 0, 2, 0, 0, begin, len(table), 3, len(names) + 1, 4, 16)
+    headers += struct.pack("<10I", 0, 3, 0, 0, begin + len(table), len(texts), 0, 0, 1, 0)
+    file = patched(file, 32, word(begin + len(table) + len(texts)))
+    file = patched(file, 46, half(40) + half(sections) + half(3))
+    return file + table + texts + headers
+
+
+OBJECT, SOURCE_FILE = 1, 4
 
 GOOD = build(FIRST)
 # Where the fields of the first program header stand.
@@ -235,6 +256,15 @@ MORE = {
     # The stack begins where the code does, behind 64 bytes of RAM.
     "stack_below_ram": build(
         memory_images.STACK_BELOW_RAM, at=BASE + 0x40, entry=BASE + 0x40
+    ),
+    # Four files have an object of one name each.
+    "one_name_in_four_files": with_names(
+        build(FIRST, more=[(BASE + 0x1000, b"", R | W, 16)]),
+        [
+            name
+            for k, file in enumerate(["a.c", "b.c", "c.c", "d.c"])
+            for name in [(file, 0, SOURCE_FILE), ("turn", BASE + 0x1000 + 4 * k, OBJECT)]
+        ],
     ),
     "sixteen_mib": build(FIRST, more=[(BASE + 0x1000, b"\7", R | W, 0xFFF000)]),
 }
