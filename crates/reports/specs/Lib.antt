@@ -5,4 +5,5 @@ pub mod CountLines
 pub mod Json
 pub mod Ends
 pub mod Listing
+pub mod Tables
 pub mod Traces

@@ -1,0 +1,10 @@
+use Rattle.std.proofs.Common.{flat_map}
+use Rattle.std.specs.Io.KnownBytes.{Appends}
+use Rattle.smt_model.specs.Basics.{below}
+use Rattle.reports.specs.Tables.{committed_at}
+use Rattle.reports.proofs.tables.write_retired.Given as goal
+
+-- those so far are written
+abbrev pub invariant-loop-index : goal.invariant-loop-index
+invariant-loop-index g l =
+    Appends (g.W.Write.contents l.fn.out) (g.W.Write.contents l.out) (flat_map (committed_at l.maps) (below l.index))
