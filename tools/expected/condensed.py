@@ -5,8 +5,11 @@
 
 A hart's step is followed by its local ones: where the code may not be written, those that touch no memory and put
 nothing out, and those that end or stop the hart. Then a register counts as 0 that is neither watched nor may be read
-yet, and the hart has no reservation that it can't use. Both are found by the code alone, with JALR going anywhere; where
-the code may be written nothing is left out but of harts that don't go.
+yet, and the hart has no reservation that it can't use. Both are found by the code, with JALR going where it goes in some
+state that is visited; where the code may be written nothing is left out but of harts that don't go.
+
+The program comes to these jumps in passes, of which it makes some; here a search with JALR going anywhere finds them. A
+program with more jumps by registers than there are passes may visit more states.
 """
 
 import sys
@@ -40,10 +43,12 @@ def onward(i, pc):
 
 
 class Code:
-    """Of each pc the registers that may be read yet, and whether a reservation may be used yet."""
+    """Of each pc the registers that may be read yet, and whether a reservation may be used yet. The jumps are pairs of the
+    pc of a JALR and of where it goes; without them it may go anywhere."""
 
-    def __init__(self, made):
+    def __init__(self, made, jumps=None):
         self.is_written, self.live, self.kept = made.is_writable, {}, {}
+        self.jumps, self.met = jumps, set()
         self.words = {pc: instruction(made, pc) for pc in range(made.code, made.code + len(made.code_bytes), 4)}
         while self.add_missing():
             pass
@@ -51,12 +56,24 @@ class Code:
     def add_missing(self):
         before = dict(self.live), dict(self.kept)
         for pc, i in sorted(self.words.items(), reverse=True):
-            behind = onward(i, pc)
+            behind = self.onward(i, pc)
             live = REGISTERS if behind is None else frozenset().union(*(self.live.get(to, ()) for to in behind))
             kept = behind is None or any(self.kept.get(to, False) for to in behind)
             self.live[pc] = (live - {i.rd} | {i.rs1, i.rs2}) - {0}
             self.kept[pc] = i.kind == "sc" or (i.kind != "lr" and kept)
         return (self.live, self.kept) != before
+
+    def onward(self, i, pc):
+        if i.name == "jalr" and self.jumps is not None:
+            return tuple(to for start, to in self.jumps if start == pc)
+        return onward(i, pc)
+
+    def step(self, machine, hart):
+        """Makes the hart's step, and notes where it jumps by a register."""
+        pc = machine.pcs[hart]
+        machine.step(hart)
+        if self.words.get(pc, NO_WORD).name == "jalr" and machine.statuses[hart] == GOING:
+            self.met.add((pc, machine.pcs[hart]))
 
     def is_live(self, pc, register):
         return self.is_written or register in self.live.get(pc, ())
@@ -79,7 +96,7 @@ def settle(code, machine, hart, kept):
     for _ in range(0 if code.is_written else MOST_LOCAL_STEPS):
         if machine.statuses[hart] != GOING or not is_local(code, machine, hart):
             break
-        machine.step(hart)
+        code.step(machine, hart)
     pc, goes = machine.pcs[hart], machine.statuses[hart] == GOING
     for register in REGISTERS - kept:
         if not (goes and code.is_live(pc, register)):
@@ -94,10 +111,10 @@ def state_of(machine):
     return frozen(machine)
 
 
-def states(made, harts, columns=()):
-    """How many states are visited, where this is watched."""
+def visited(made, harts, columns, code):
+    """How many states are visited, where this is watched, with these registers live."""
     kept = {what[2] for _, what in columns if what[0] == "register"}
-    code, start = Code(made), Plain(made, harts)
+    start = Plain(made, harts)
     for hart in range(harts):
         settle(code, start, hart, kept)
     seen, waiting = {state_of(start)}, [state_of(start)]
@@ -105,13 +122,25 @@ def states(made, harts, columns=()):
         here = waiting.pop()
         for hart in thawed(made, here).going():
             machine = thawed(made, here)
-            machine.step(hart)
+            code.step(machine, hart)
             settle(code, machine, hart, kept)
             there = state_of(machine)
             if there not in seen:
                 seen.add(there)
                 waiting.append(there)
     return len(seen)
+
+
+def states(made, harts, columns=()):
+    """How many states are visited in the last pass, where this is watched."""
+    anywhere = Code(made)
+    count = visited(made, harts, columns, anywhere)
+    if anywhere.is_written or not anywhere.met:
+        return count
+    known = Code(made, anywhere.met)
+    count = visited(made, harts, columns, known)
+    assert known.met == known.jumps, "the same jumps are met in each pass that is whole"
+    return count
 
 
 def main(words):

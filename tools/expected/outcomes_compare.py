@@ -3,7 +3,8 @@
     python3 tools/expected/outcomes_compare.py PROGRAM [COUNT] [SEED]
 
 Small programs of two or three harts: loads, stores, LR, SC, AMO, branches, output, ends and stops; one in
-three also writes its own code. What is printed has to be the same, and the number of states that of `condensed.py`.
+three also writes its own code, and one in three calls a function from two places, or jumps to what a register holds. What is
+printed has to be the same, and the number of states that of `condensed.py`.
 Each order that is asked for has to end as its outcome says, on the plain machine. Programs of more than 20,000 states are
 left out. Prints how many agree, and ends with status 1 where one doesn't.
 """
@@ -18,7 +19,7 @@ import condensed
 import every_order
 import image
 from plain import Plain
-from random_words import branch
+from random_words import branch, jump
 
 MOST = 20000
 # auipc x8,0; addi x9,x8,256: where the words begin that all harts load and store.
@@ -83,6 +84,31 @@ def some_program_that_writes_code(r):
     return [*TO_MEMORY, load, *words, EXIT, ECALL, *stock]
 
 
+def some_program_that_jumps(r):
+    """A program that calls a function from two places, of which either may be passed over; now and then it jumps to where
+    another register says."""
+    parts = [[word for _ in range(r.randint(0, 2)) for word in some_instruction(r, 0)] for _ in range(4)]
+    back = [r.choice((0, 0, 0, 0, 4)) << 20 | 1 << 15 | r.choice((0, 0, 0, 5)) << 7 | 0x67]
+    if r.random() < 0.2:
+        # auipc x7,0; jalr x0,N(x7); or where one of the registers says that are loaded into.
+        parts[r.randrange(3)] += r.choice(([0x00000397, r.choice((4, 8, 8, 12)) << 20 | 7 << 15 | 0x67], [6 << 15 | 0x67]))
+    if r.random() < 0.5:
+        # amoadd.w x5,x10,(x9); beq x5,x0,8: a hart that comes first passes over the second call.
+        parts[1] += [10 << 20 | 9 << 15 | 2 << 12 | 5 << 7 | 0x2F, branch(0, 5, 0, 8)]
+    first, between, last, function = parts
+    last = last + [EXIT, ECALL]
+    return [
+        *TO_MEMORY,
+        *first,
+        jump(1, 4 * (2 + len(between) + len(last))),
+        *between,
+        jump(1, 4 * (1 + len(last))),
+        *last,
+        *function,
+        *back,
+    ]
+
+
 def some_watch(r, harts):
     parts = [f"{r.choice(('x5', 't0', 'x6', 'a0'))}@{r.randrange(harts)}" for _ in range(r.randrange(3))]
     parts += [f"{r.choice(SHARED):08x}:{r.choice((4, 4, 2, 1))}" for _ in range(r.randrange(2))]
@@ -99,11 +125,11 @@ def some_condition(r, harts):
 
 def inputs_of(seed, k):
     r = random.Random(f"outcomes {seed} {k}")
-    harts = r.choice((2, 2, 2, 3))
-    if r.random() < 1 / 3:
+    harts, kind = r.choice((2, 2, 2, 3)), r.randrange(3)
+    if kind == 0:
         file = image.build(some_program_that_writes_code(r), flags=image.R | image.W | image.X)
     else:
-        file = image.build(some_program(r))
+        file = image.build(some_program_that_jumps(r) if kind == 1 else some_program(r))
     watch = some_watch(r, harts)
     return harts, file, watch, some_condition(r, harts) if r.random() < 0.5 else None
 

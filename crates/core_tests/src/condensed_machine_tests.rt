@@ -192,7 +192,7 @@ struct Refused {
 }
 
 /// The machine goes by these targets. Where no step is refused, it jumps from 0 to 0.
-fn refused(targets: Targets, alloc: Global) -> Option<Refused> {
+fn refused_by(targets: Targets, alloc: Global) -> Option<Refused> {
     let file = file_of(&JUMPING, 0, alloc).ok()?;
     let image = image_of(file.as_slice(), 65536, alloc)?;
     let Ok(mut machine) = CondensedMachine::new(&image, 2, [false; 32], targets, alloc) else {
@@ -227,14 +227,14 @@ fn is_so(seen: Option<Refused>, begun: u16, from: u32, to: u32) -> bool {
 
 #[test]
 fn a_jump_that_the_table_lacks_is_refused(rt: HostRuntime) {
-    let none = refused(Targets::none(rt.alloc()), rt.alloc());
+    let none = refused_by(Targets::none(rt.alloc()), rt.alloc());
     holds(&rt, "none", is_so(none, 1, OVER.from, OVER.to));
-    let anywhere = refused(Targets::anywhere(rt.alloc()), rt.alloc());
+    let anywhere = refused_by(Targets::anywhere(rt.alloc()), rt.alloc());
     holds(&rt, "anywhere", is_so(anywhere, 4, 0, 0));
     match listed(OVER, rt.alloc()) {
         None => holds(&rt, "memory", false),
         Some(targets) => {
-            let over = refused(targets, rt.alloc());
+            let over = refused_by(targets, rt.alloc());
             holds(&rt, "listed", is_so(over, 4, 0, 0));
         }
     }

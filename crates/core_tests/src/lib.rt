@@ -9,6 +9,8 @@ mod actors_tests;
 #[cfg(test)]
 mod asking;
 #[cfg(test)]
+mod computed_jumps_tests;
+#[cfg(test)]
 mod condensed_machine_tests;
 #[cfg(test)]
 mod core_lock_tests;

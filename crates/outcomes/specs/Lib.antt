@@ -3,5 +3,6 @@ pub mod Collected
 pub mod Found
 pub mod Told
 pub mod Refusals
+pub mod Passes
 pub mod Parts
 pub mod Goals

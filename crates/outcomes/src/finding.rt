@@ -1,6 +1,6 @@
 //! The search for all outcomes of a program, or for some.
 
-ghost use Rattle.std.specs.Prelude.{◌≡◌, ◌<◌, ℕ, Contains, IfOk, IfErr, IfSome, OnOk, length, map};
+ghost use Rattle.std.specs.Prelude.{◌≡◌, ◌<◌, ℕ, true, Contains, IfOk, IfErr, IfSome, OnOk, length, map};
 ghost use Rattle.condensed_machine.specs.Decoded.{Knows};
 ghost use Rattle.condensed_machine.specs.Machine.{IsSound};
 ghost use Rattle.condensed_machine.specs.Steps.{Steps, HasBegun};
@@ -11,21 +11,28 @@ ghost use Rattle.searches.specs.declared.extent.Extent.TheVariants.{Whole};
 ghost use Rattle.outcomes.specs.{Found.IsOnce, Parts.IsListing, Parts.IsAskedFor};
 ghost use Rattle.outcomes.specs.{Collected.IsAskedAt, Collected.is_unwritten};
 ghost use Rattle.outcomes.specs.Refusals.{IsRefusedFor, AreWords, AreWatched};
+ghost use Rattle.outcomes.specs.Passes.{IsUnfoundFor, IsCutShort};
 ghost use Rattle.outcomes.specs.declared.refused.OutcomesRefused.TheVariants.{Memory};
 ghost use Rattle.watched_outcomes.specs.Watching.{AreThere};
 
 use crate::collecting::list_outcomes;
 use crate::ending_goal::EndingGoal;
+use crate::first_jumps::first_jumps;
 use crate::outcomes::Outcomes;
 use crate::refused::OutcomesRefused;
+use crate::unfound::Unfound;
 use crate::until::Until;
 use crate::unwritten::list_unwritten;
 use condensed_machine::{Begun, CondensedMachine, State};
 use elf_image::Image;
+use live_registers::Targets;
 use sc_machine::PlainRefused;
-use searches::{Explored, Extent, Onlooker, Search, explore};
+use searches::{Explored, Extent, Onlooker, Search, Unmade, explore};
 use std::alloc::{AllocError, Global};
 use watched_outcomes::{Watch, WatchedBytes};
+
+/// How many passes there are at the most that take it that harts jump by registers only where it was seen.
+const MOST_PASSES: u8 = 64;
 
 /// Finds the outcomes of a program of 1 to `MOST_HARTS` harts, by a search over at most `budget` states of
 /// the plain machine. The onlooker is told now and then how far the search is.
@@ -52,9 +59,83 @@ pub fn find_outcomes<O: Onlooker, U: Until>(
     ensures present { OnOk result (AreThere harts watch.now × AreWords image.now watch.now) }
     ensures refused { IfErr result (IsRefusedFor image.now harts watch.now) }
 {
-    let machine = match new_machine(image, harts, watch, alloc) {
+    let Ok(mut targets) = first_jumps(image, harts, alloc) else {
+        return Err(OutcomesRefused::Memory);
+    };
+    for _pass in 0..MOST_PASSES {
+        let Ok(seen) = copy_of(&targets, alloc) else {
+            return Err(OutcomesRefused::Memory);
+        };
+        match find_within(image, harts, watch, budget, onlooker, until, seen, alloc) {
+            Ok(found) => return Ok(found),
+            Err(Unfound::Refused(why)) => return Err(why),
+            Err(Unfound::Lacks(jump)) => {
+                let Ok(()) = targets.add(jump) else {
+                    return Err(OutcomesRefused::Memory);
+                };
+            }
+        }
+    }
+    find_anywhere(image, harts, watch, budget, onlooker, until, alloc)
+}
+
+/// The same targets. Errors: want of memory.
+fn copy_of(targets: &Targets, alloc: Global) -> Result<Targets, AllocError>
+    ensures anywhere { IfOk result (λ copy. copy.anywhere ≡ targets.now.anywhere) }
+    ensures jumps { IfOk result (λ copy. copy.jumps.items ≡ targets.now.jumps.items) }
+{
+    Ok(Targets {
+        anywhere: targets.anywhere,
+        jumps: Vec::from_slice(alloc, targets.jumps.as_slice())?,
+    })
+}
+
+/// The outcomes of a program whose harts may jump anywhere by registers: in one pass.
+fn find_anywhere<O: Onlooker, U: Until>(
+    image: &Image,
+    harts: u8,
+    watch: &Watch,
+    budget: u32,
+    onlooker: &O,
+    until: &U,
+    alloc: Global,
+) -> Result<Outcomes, OutcomesRefused>
+    ensures found { IfOk result (IsListing image.now harts watch.now budget) }
+    ensures once { IfOk result IsOnce }
+    ensures asked { IfOk result (IsAskedFor (U.Asks until.now)) }
+    ensures present { OnOk result (AreThere harts watch.now × AreWords image.now watch.now) }
+    ensures refused { IfErr result (IsRefusedFor image.now harts watch.now) }
+{
+    let anywhere = Targets::anywhere(alloc);
+    match find_within(
+        image, harts, watch, budget, onlooker, until, anywhere, alloc,
+    ) {
+        Ok(found) => Ok(found),
+        Err(Unfound::Refused(why)) => Err(why),
+        Err(Unfound::Lacks(_)) => unreachable!(),
+    }
+}
+
+/// One pass: the outcomes of a program, where its harts jump by registers only where these targets say.
+fn find_within<O: Onlooker, U: Until>(
+    image: &Image,
+    harts: u8,
+    watch: &Watch,
+    budget: u32,
+    onlooker: &O,
+    until: &U,
+    targets: Targets,
+    alloc: Global,
+) -> Result<Outcomes, Unfound>
+    ensures found { IfOk result (IsListing image.now harts watch.now budget) }
+    ensures once { IfOk result IsOnce }
+    ensures asked { IfOk result (IsAskedFor (U.Asks until.now)) }
+    ensures present { OnOk result (AreThere harts watch.now × AreWords image.now watch.now) }
+    ensures unfound { IfErr result (IsUnfoundFor image.now harts watch.now targets) }
+{
+    let machine = match new_machine(image, harts, watch, targets, alloc) {
         Ok(machine) => machine,
-        Err(why) => return Err(why),
+        Err(why) => return Err(Unfound::Refused(why)),
     };
     search_all(machine, watch, budget, onlooker, until, alloc)
 }
@@ -64,16 +145,19 @@ fn new_machine(
     image: &Image,
     harts: u8,
     watch: &Watch,
+    targets: Targets,
     alloc: Global,
 ) -> Result<CondensedMachine, OutcomesRefused>
     ensures image { IfOk result (λ machine. machine.program.image ≡ image.now) }
     ensures harts { IfOk result (λ machine. machine.program.harts ≡ harts) }
     ensures sound { IfOk result (λ machine. IsSound machine.program) }
     ensures watched { IfOk result (λ machine. AreWatched machine.program.watched watch.now) }
+    ensures anywhere { IfOk result (λ machine. targets.anywhere ≡ true
+        → machine.program.targets.anywhere ≡ true) }
     ensures refused { IfErr result
         (IsRefusedFor image.now harts watch.now) }
 {
-    match CondensedMachine::new(image, harts, watch.registers_watched(), alloc) {
+    match CondensedMachine::new(image, harts, watch.registers_watched(), targets, alloc) {
         Ok(machine) => Ok(machine),
         Err(PlainRefused::Harts) => Err(OutcomesRefused::Harts),
         Err(PlainRefused::Memory) => Err(OutcomesRefused::Memory),
@@ -88,7 +172,7 @@ fn search_all<O: Onlooker, U: Until>(
     onlooker: &O,
     until: &U,
     alloc: Global,
-) -> Result<Outcomes, OutcomesRefused>
+) -> Result<Outcomes, Unfound>
     requires sound { IsSound machine.program }
     requires watched { AreWatched machine.program.watched watch.now }
     ensures found { IfOk result
@@ -97,22 +181,25 @@ fn search_all<O: Onlooker, U: Until>(
     ensures asked { IfOk result (IsAskedFor (U.Asks until.now)) }
     ensures present { OnOk result (AreThere machine.program.harts watch.now
         × AreWords machine.program.image watch.now) }
-    ensures refused { IfErr result
-        (IsRefusedFor machine.program.image machine.program.harts watch.now) }
+    ensures unfound { IfErr result (IsUnfoundFor machine.program.image machine.program.harts watch.now
+        machine.program.targets) }
 {
     let mut machine = machine;
     match check_watch(&machine, watch) {
         Ok(()) => {}
-        Err(why) => return Err(why),
+        Err(why) => return Err(Unfound::Refused(why)),
     }
     let Ok(begun) = machine.begin() else {
-        return Err(OutcomesRefused::Memory);
+        return Err(Unfound::Refused(OutcomesRefused::Memory));
     };
     let explored = match search_from(&mut machine, begun, watch, budget, onlooker, until, alloc) {
         Ok(explored) => explored,
         Err(why) => return Err(why),
     };
-    outcomes_of(&machine, begun, explored, watch, budget, until, alloc)
+    let Ok(found) = outcomes_of(&machine, begun, explored, watch, budget, until, alloc) else {
+        return Err(Unfound::Refused(OutcomesRefused::Memory));
+    };
+    Ok(found)
 }
 
 /// Looks whether all that is watched is there.
@@ -143,7 +230,7 @@ fn search_from<O: Onlooker, U: Until>(
     onlooker: &O,
     until: &U,
     alloc: Global,
-) -> Result<Explored<State, u16>, OutcomesRefused>
+) -> Result<Explored<State, u16>, Unfound>
     requires known { Knows machine.old begun.state }
     requires begun { HasBegun machine.old begun }
     requires registers { AreThere machine.old.program.harts watch.now }
@@ -156,7 +243,7 @@ fn search_from<O: Onlooker, U: Until>(
         → Knows machine.new s) }
     ensures asked { IfOk result (λ explored. IsToldFor (IsAskedAt (U.Asks until.now) machine.new watch.now)
         explored.search explored.extent) }
-    ensures refused { IfErr result (λ why. why ≡ Memory) }
+    ensures cut_short { IfErr result (IsCutShort machine.old.program.targets) }
 {
     let goal = EndingGoal {
         watch,
@@ -165,7 +252,8 @@ fn search_from<O: Onlooker, U: Until>(
     };
     match explore(machine, begun.state, budget, onlooker, &goal, alloc) {
         Ok(explored) => Ok(explored),
-        Err(AllocError) => Err(OutcomesRefused::Memory),
+        Err(Unmade::Memory) => Err(Unfound::Refused(OutcomesRefused::Memory)),
+        Err(Unmade::Lacks(jump)) => Err(Unfound::Lacks(jump)),
     }
 }
 

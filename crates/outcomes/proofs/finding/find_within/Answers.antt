@@ -1,0 +1,13 @@
+use Rattle.outcomes.specs.Parts.{IsListing}
+use Rattle.outcomes.proofs.Programs.{of_same, unfound_of_same}
+use Rattle.outcomes.proofs.finding.find_within.Goals as goal
+
+pub returns-clause-found : goal.returns-clause-found
+returns-clause-found g c =
+    of_same (λ image harts. IsListing image harts c.args.watch.now c.args.budget) _ _ _ _
+    c.search_all.result c.in-Ok.ensures.image c.in-Ok.ensures.harts c.search_all.ensures.found
+
+pub returns-clause-unfound : goal.returns-clause-unfound
+returns-clause-unfound g c =
+    unfound_of_same _ _ _ _ c.args.watch.now c.in-Ok.machine.program.targets c.args.targets c.search_all.result
+    c.in-Ok.ensures.image c.in-Ok.ensures.harts c.in-Ok.ensures.anywhere c.search_all.ensures.unfound
