@@ -1,7 +1,7 @@
 -- No two states that a machine knows are alike, as no table has a part twice, and what isn't kept is 0.
 use Rattle.std.proofs.Common.{◌≡◌, ℕ, zero, suc, ◌<◌, ◌≤◌, Bool, true, false, ◌&&◌, nat_eq, List, [], ◌∷◌, ◌++◌, length}
-use Rattle.std.proofs.Common.{get_or, refl, sym, ap, ap₂, subst, ◌∙◌, inl, inr, arith, Option, None, rules}
-use Rattle.std.specs.Prelude.{◌≢◌, ◌||◌, nat_lt, if◌then◌else◌, slice_index, slice_get}
+use Rattle.std.proofs.Common.{get_or, refl, sym, ap, ap₂, subst, ◌∙◌, inl, inr, arith, None, rules}
+use Rattle.std.specs.Prelude.{◌≢◌, ◌||◌, nat_lt, if◌then◌else◌, slice_index}
 use Rattle.std.specs.List.{IsDistinct, AllByRecursion}
 use Rattle.std.specs.Cmp.{unsigned_Decides}
 use Rattle.std.specs.Cmp.Lexicographic.{pointwise, pointwise_decides}
@@ -21,7 +21,7 @@ use Rattle.changed_memory.specs.Shared.{Shared, byte_at, reserved_at}
 use Rattle.condensed_machine.specs.{Machine.Machine, Machine.Program, declared.state.State.State}
 use Rattle.condensed_machine.specs.Decoded.{Knows, decoded, hart_at, hart_in, no_hart, no_shared, numbers_of}
 use Rattle.condensed_machine.specs.Decoded.{shared_at, state_of}
-use Rattle.condensed_machine.specs.Decoded.{AreDropped, full, pc_of, register_of, status_of}
+use Rattle.condensed_machine.specs.Decoded.{pc_of, register_of, status_of}
 use Rattle.condensed_machine.specs.Distinct.{AreAtRest, AreDistinct, HaveOneForm, HaveRegisters, IsAtRest}
 use Rattle.condensed_machine.specs.{Executing.ComesToRest, Machine.HaveZero, Machine.tables_of}
 use Rattle.condensed_machine.specs.Resting.{is_kept, is_watched}

@@ -11,7 +11,7 @@ use Rattle.live_registers.specs.Table.{kept_of}
 use Rattle.sc_machine.specs.declared.hart.Hart.{Hart}
 use Rattle.changed_memory.specs.Shared.{reserved_at}
 use Rattle.condensed_machine.specs.{Machine.Program, Resting.keeps_reservation, declared.executed.Executed.Executed}
-use Rattle.condensed_machine.specs.Decoded.{AreDropped, Decoded, full, hart_at, pc_of, status_of}
+use Rattle.condensed_machine.specs.Decoded.{AreDropped, Decoded, full, pc_of, status_of}
 use Rattle.condensed_machine.proofs.Moving.{IsNext}
 
 -- Another hart's instruction gives no reservation.

@@ -13,8 +13,9 @@ machine_of a = record {
   shared_states = a.shared_states.keys;
 }
 
--- The program is sound; x0 is 0 in each hart, which has 32 registers, and 0 in each that isn't kept; code that may not be
--- written is what the image has, and the changes of memory are kept in their one form; each move that is noted is one.
+-- The program is sound; each hart has 32 registers, of which x0 is 0, and so is each that isn't kept; code that may not
+-- be written is what the image has, and the changes of memory are kept in their one form; each move that is noted is
+-- one.
 pub record IsMachine (a : Inside) : Type 0 where
   pub sound : IsSound a.program
   pub zero : HaveZero a.hart_states.keys

@@ -14,8 +14,8 @@ pub record SettlesBy (setup : Setup) (p : Program) (order : List ℕ) (s t : Pla
   pub settles : Settles setup (is_watched p.watched) (tables_of p) s t
   pub by : settles.order ≡ order
 
--- Hart h can step, its step fits the tables, and after it and so many local ones of its own the state is the next, which
--- the machine knows.
+-- Hart h can step, its step fits the tables, and after it and so many local ones of its own the state is the next,
+-- which the machine knows.
 pub record MakesStep (setup : Setup) (m : Machine) (s : State) (h : ℕ) (step : Step State ℕ) : Type 0 where
   pub can : can_step setup h (state_of m s) ≡ true
   pub fits : fits setup (tables_of m.program) h (state_of m s) ≡ true
