@@ -86,7 +86,8 @@ MayLack m jump = IsLacking m.program.targets jump
 
 -- The machine of so many harts that run an image, and of which these registers are watched. It goes by the table of
 -- targets that it was given, unless the code may be written.
-pub record IsNew (image : ProgramImage) (harts : ℕ) (watched : List Bool) (targets : Targets) (m : Machine) : Type 0 where
+pub record IsNew (image : ProgramImage) (harts : ℕ) (watched : List Bool) (targets : Targets) (m : Machine)
+    : Type 0 where
   pub image_is : m.program.image ≡ image
   pub count : m.program.harts ≡ harts
   pub watched_are : m.program.watched ≡ watched

@@ -2,11 +2,11 @@
 //! has a step next that other harts may see, with 0 in each register that nobody reads again, and no reservation of a
 //! hart that has stepped and can't use it.
 //!
-//! Read in this order: `jumping` (jumps by registers, held against a table), `local` (a step that other harts don't
-//! see), `settling` (how a hart follows its own), `resting` (which registers it keeps), `program` (what is searched),
-//! `executed` and `tables` (what a step does, and the numbers of the parts of states), `state`, `numbering` (the numbers
-//! of a state's harts), `machine`, `moves` (what a step comes to, noted), `stepping`, `begun` and `beginning` (the first
-//! state), `searching` (the machine as one that is searched).
+//! Read in this order: `jumping` (jumps by registers, held against a table), `local` (a step that other harts
+//! don't see), `settling` (how a hart follows its own), `resting` (which registers it keeps), `program` (what is
+//! searched), `executed` and `tables` (what a step does, and the numbers of the parts of states), `state`, `numbering`
+//! (the numbers of a state's harts), `machine`, `moves` (what a step comes to, noted), `stepping`, `begun` and
+//! `beginning` (the first state), `searching` (the machine as one that is searched).
 #![tactic(auto)]
 
 mod beginning;

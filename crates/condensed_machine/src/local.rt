@@ -33,7 +33,7 @@ fn local_effect(op: Op, computed: Computed) -> Option<Effect>
     Some(effect_of(op, computed, 0, false))
 }
 
-/// The effect of such an instruction, found at a pc, where it doesn't jump by a register to where the table has no jump.
+/// The effect of such an instruction, found at a pc, where it makes no jump by a register that the table lacks.
 fn followed_effect(targets: &Targets, op: Op, pc: u32, computed: Computed) -> Option<Effect>
     ensures followed { is_some result
         ≡ (is_silent op computed && keeps_to (allows targets.now) op pc computed.next) }

@@ -62,8 +62,8 @@ impl CondensedMachine {
         Ok(())
     }
 
-    /// Makes a hart's next instruction, whatever it is, and then its local steps. Errors: want of memory, or a jump by a
-    /// register that the table of targets lacks.
+    /// Makes a hart's next instruction, whatever it is, and then its local steps. Errors: want of memory, or a jump
+    /// by a register that the table of targets lacks.
     fn make_move(&mut self, from: MoveFrom) -> Result<MoveTo, Unmade<Jump>>
         requires hart { from.hart < self.old.program.harts }
         requires number { from.number < length self.old.hart_states }

@@ -17,7 +17,8 @@ use Rattle.rv_instr.proofs.DecodedLemmas.{op_rs1_below, op_rs2_below}
 use Rattle.decoded_code.specs.Code.{IsCodeOf, IsFound, found_at}
 use Rattle.decoded_code.proofs.Fetching.{found}
 use Rattle.decoded_code.specs.declared.code.{Code.Code, Fetched.Fetched}
-use Rattle.outcome_laws.specs.Tables.{op_at, reads_register, may_follow, may_go, goes_anywhere, IsLiveTable, IsKeptTable}
+use Rattle.outcome_laws.specs.Tables.{op_at, reads_register, may_follow, may_go, goes_anywhere}
+use Rattle.outcome_laws.specs.Tables.{IsLiveTable, IsKeptTable}
 use Rattle.outcome_laws.specs.Tables.{is_conditional, replaces_reservation}
 use Rattle.live_registers.specs.{Targets.allows, Onward.goes, declared.targets.Targets.Targets}
 use Rattle.live_registers.specs.declared.table.{LiveTable.LiveTable, Row.Row}
@@ -170,11 +171,12 @@ module _ (image : ProgramImage) (code : Code) (targets : Targets) (table : LiveT
             live_by table pc r both.1.row both.1.at below (both.1.good.reads r (positive r some) below reads)
       ]
 
-  stays_at : (pc to r : ℕ) → r ≢ 0 → (it : Finds pc) → goes (allows targets) it.op pc to ≡ true → live_of table to r ≡ true
-      → (r == destination it.op) ≡ false → live_of table pc r ≡ true
+  stays_at : (pc to r : ℕ) → r ≢ 0 → (it : Finds pc) → goes (allows targets) it.op pc to ≡ true
+      → live_of table to r ≡ true → (r == destination it.op) ≡ false → live_of table pc r ≡ true
   stays_at pc to r some it follows lives other =
       elim it.known [
-        | inl none ↦ absurd (nowhere (allows targets) pc to (subst (λ o. goes (allows targets) o pc to ≡ true) none follows))
+        | inl none ↦
+            absurd (nowhere (allows targets) pc to (subst (λ o. goes (allows targets) o pc to ≡ true) none follows))
         | inr both ↦
             let below : r < 32 = live_below table to r of_code.by_rows lives in
             live_by table pc r both.1.row both.1.at below
@@ -192,7 +194,8 @@ module _ (image : ProgramImage) (code : Code) (targets : Targets) (table : LiveT
       → replaces_reservation (kind_of it.op) ≡ false → kept_of table pc ≡ true
   kept_at pc to it follows keeps replaces =
       elim it.known [
-        | inl none ↦ absurd (nowhere (allows targets) pc to (subst (λ o. goes (allows targets) o pc to ≡ true) none follows))
+        | inl none ↦
+            absurd (nowhere (allows targets) pc to (subst (λ o. goes (allows targets) o pc to ≡ true) none follows))
         | inr both ↦ kept_by table pc both.1.row both.1.at (both.1.kept.stays to follows keeps replaces)
       ]
 
@@ -209,7 +212,8 @@ module _ (image : ProgramImage) (code : Code) (targets : Targets) (table : LiveT
         reads_at pc r some it (subst (λ o. reads_register o r ≡ true) it.is_so reads);
     stays = λ pc to r some going lives other.
         let it = finds pc in
-        stays_at pc to r some it (subst (λ o. goes (allows targets) o pc to ≡ true) it.is_so (goes_by pc to going)) lives
+        stays_at pc to r some it
+        (subst (λ o. goes (allows targets) o pc to ≡ true) it.is_so (goes_by pc to going)) lives
         (subst (λ o. (r == destination o) ≡ false) it.is_so other);
     all = λ pc r some written. absurd (grind (arith, fixed, written));
   }

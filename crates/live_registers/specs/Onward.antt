@@ -1,5 +1,5 @@
 -- Where an instruction may go on, as the code says it, and a table of targets for JALR.
-use Rattle.std.specs.Prelude.{ℕ, Bool, true, false, ◌==◌, ◌||◌}
+use Rattle.std.specs.Prelude.{ℕ, Bool, false, ◌==◌, ◌||◌}
 use Rattle.rv_instr.specs.declared.op.Op.{Op}
 use Rattle.outcome_laws.specs.Tables.{may_go}
 use Rattle.live_registers.specs.declared.onward.Onward.{Onward}

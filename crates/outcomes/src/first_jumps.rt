@@ -59,7 +59,7 @@ fn follow_order(
     targets: &mut Targets,
     alloc: Global,
 ) -> Result<(), AllocError>
-    requires { number < 8 }
+    requires { number < 32 }
 {
     let Ok(mut machine) = Plain::new(image, harts, 0, alloc) else {
         return Ok(());
@@ -72,7 +72,7 @@ fn follow_order(
         };
         note_step(&mut machine, hart, targets)?;
         first = if step % turn == turn - 1 {
-            behind(hart, machine.harts())
+            hart.wrapping_add(1)
         } else {
             hart
         };
@@ -80,7 +80,7 @@ fn follow_order(
     Ok(())
 }
 
-/// The first hart that goes: from this one on, and from hart 0 behind the last. None where none goes.
+/// The first hart that goes: from this one on, where behind the last comes hart 0 again. None where none goes.
 fn next_going(machine: &Plain, first: u8) -> Option<u8>
     ensures { IfSome result (λ hart. hart < length machine.now.harts) }
 {

@@ -1,4 +1,5 @@
-use Rattle.outcome_laws.proofs.Fitting.{live_alone_is_tables, every_step_fits, fits_by_its_target, silent_steps_are_local}
+use Rattle.outcome_laws.proofs.Fitting.{live_alone_is_tables, every_step_fits}
+use Rattle.outcome_laws.proofs.Fitting.{fits_by_its_target, silent_steps_are_local}
 use Rattle.outcome_laws.proofs.laws.steps_fit_what_allows_all.Goals as goal
 
 pub returns-clause-tables : goal.returns-clause-tables
