@@ -116,7 +116,8 @@ one_hart x y here there same pc status =
     (λ r inside. same r (subst (λ n. r < n) here inside)) in
     λ i. record { registers = registers i; pc = pc i; status = status i }
 
-one_shared : (one_list_each : EqualMemoriesAreOneList) (image : ProgramImage) (table : List Shared) → HaveOneForm image table
+one_shared : (one_list_each : EqualMemoriesAreOneList) (image : ProgramImage) (table : List Shared)
+    → HaveOneForm image table
     → (a b : ℕ) → a < length table → b < length table
     → ((h : ℕ) → reserved_at (shared_at table a) h ≡ reserved_at (shared_at table b) h)
     → ((addr : ℕ) → byte_at image (shared_at table a) addr ≡ byte_at image (shared_at table b) addr)
@@ -169,13 +170,15 @@ module _ (p : Program) (h : ℕ) (x y : Hart) (inside : h < p.harts) (long_x : l
       | inl yes_kept ↦
           sym (register_in p h x r there below)
           ∙ kept r some
-          (ap (λ pc. keeps pc (status_of p h x) r) (pc_is x) ∙ ap (λ status. keeps x.pc status r) (status_is x) ∙ yes_kept)
+          (ap (λ pc. keeps pc (status_of p h x) r) (pc_is x) ∙ ap (λ status. keeps x.pc status r) (status_is x)
+          ∙ yes_kept)
           ∙ register_in p h y r there below
       | inr not_kept ↦
           let positive : 0 < r = omega (arith, some) in
           rest_x r positive below not_kept
           ∙ sym (rest_y r positive below
-          (ap (λ pc. keeps pc y.status r) (sym pc_same) ∙ ap (λ status. keeps x.pc status r) (sym status_same) ∙ not_kept))
+          (ap (λ pc. keeps pc y.status r) (sym pc_same) ∙ ap (λ status. keeps x.pc status r) (sym status_same)
+          ∙ not_kept))
     ]
   ]
 
@@ -234,7 +237,8 @@ module _ (m : Machine) (few : m.program.harts ≤ most_harts) (harts : IsDistinc
 
     pub state_same : s ≡ t
     state_same =
-        let numbers = one_list 0 (numbers_of m s) (numbers_of m t) (one.room ∙ sym other.room) (λ h inside. number_same h) in
+        let numbers = one_list 0 (numbers_of m s) (numbers_of m t) (one.room ∙ sym other.room)
+        (λ h inside. number_same h) in
         let parts = both_parts s.near t.near (get_or m.far_harts s.far []) (get_or m.far_harts t.far [])
         (one.near ∙ sym other.near) numbers in
         let near = parts.0 in

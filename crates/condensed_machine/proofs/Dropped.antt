@@ -62,7 +62,7 @@ module _ (p : Program) (d e : Decoded) (h steps : ℕ) (done : Executed) (y : Ha
   pub dropped_next : AreDropped p e
   dropped_next g lost = elim (cases_eq g h) [
     | inl same ↦
-        subst (λ k. reservation_matters (kept_of p.live) (full p e) k ≡ false → reserved_at e.shared k ≡ None) (sym same)
-        own_dropped lost
+        subst (λ k. reservation_matters (kept_of p.live) (full p e) k ≡ false → reserved_at e.shared k ≡ None)
+        (sym same) own_dropped lost
     | inr other ↦ other_dropped g other lost
   ]

@@ -1,6 +1,6 @@
 -- A machine that learns: what it has said stays true. These are laws of an impl, so they stand here.
-use Rattle.std.specs.Prelude.{◌≡◌, ℕ, suc, ◌<◌, ◌≤◌, Bool, true, ◌&&◌, nat_eq, List, [], ◌∷◌, ◌++◌, map, length, replicate}
-use Rattle.std.specs.Prelude.{slice_index, slice_index_or, Option, Some, None, IfSome}
+use Rattle.std.specs.Prelude.{◌≡◌, ℕ, suc, ◌<◌, ◌≤◌, Bool, true, ◌&&◌, nat_eq, List, [], ◌∷◌, ◌++◌, map, length}
+use Rattle.std.specs.Prelude.{replicate, slice_index, slice_index_or, Option, Some, None, IfSome}
 use Rattle.std.proofs.Common.{refl, sym, ap, ap₂, subst, ◌∙◌, suc-le-suc, zero-le}
 use Rattle.std.proofs.lemmas.Option.{slice_get-get_or, get_or_from_slice_get, slice_get_within}
 use Rattle.std.specs.Cmp.{first_so, second_so, unsigned_Decides}

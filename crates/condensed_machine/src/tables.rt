@@ -1,6 +1,7 @@
 //! The harts and the shared parts that were found, by their numbers.
 
-ghost use Rattle.std.specs.Prelude.{◌≡◌, ℕ, ◌<◌, Bool, List, true, false, None, Some, is_some, IfOk, IfSome, slice_index, slice_get, length};
+ghost use Rattle.std.specs.Prelude.{◌≡◌, ℕ, ◌<◌, Bool, List, true, false, None, Some, is_some};
+ghost use Rattle.std.specs.Prelude.{IfOk, IfSome, slice_index, slice_get, length};
 ghost use Rattle.numbers.specs.Sizes.{most_harts};
 ghost use Rattle.shared_memory.specs.Contents.{CanWrite, IsStart};
 ghost use Rattle.elf_image.specs.Image.{ProgramImage};

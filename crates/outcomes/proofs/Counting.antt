@@ -1,5 +1,6 @@
 -- As many states of the plain machine are reached as a search has numbers for them.
-use Rattle.std.specs.Prelude.{◌≡◌, ◌≢◌, ℕ, ◌<◌, Bool, true, ◌&&◌, ◌||◌, List, [], ◌∷◌, ◌++◌, AllPairs, Contains, Some, length}
+use Rattle.std.specs.Prelude.{◌≡◌, ◌≢◌, ℕ, ◌<◌, Bool, true, ◌&&◌, ◌||◌, List, [], ◌∷◌, ◌++◌, AllPairs, Contains}
+use Rattle.std.specs.Prelude.{Some, length}
 use Rattle.std.proofs.Common.{get_or, zero, suc, refl, sym, ap, subst, ◌∙◌, arith}
 use Rattle.smt_model.specs.{Setup.Setup, Plain.Plain, Plain.start, Plain.is_going_status}
 use Rattle.outcome_laws.specs.{Paths.path, Live.AreAlike, Live.matters, Live.reservation_matters}
