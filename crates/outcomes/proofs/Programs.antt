@@ -5,8 +5,6 @@ use Rattle.std.proofs.lemmas.Bool.{cases_Bool}
 use Rattle.elf_image.specs.Image.{ProgramImage}
 use Rattle.live_registers.specs.declared.targets.Targets.{Targets}
 use Rattle.watched_outcomes.specs.declared.{watch.Watch.Watch}
-use Rattle.outcomes.specs.declared.refused.OutcomesRefused.{OutcomesRefused}
-use Rattle.outcomes.specs.declared.refused.OutcomesRefused.TheVariants.{Memory}
 use Rattle.outcomes.specs.declared.unfound.Unfound.{Unfound}
 use Rattle.outcomes.specs.declared.unfound.Unfound.TheVariants.{Refused, Lacks}
 use Rattle.outcomes.specs.{Refusals.IsRefusedFor, Passes.IsUnfoundFor, Passes.IsCutShort}
@@ -19,11 +17,6 @@ of_same P i j h k r images harts is =
 pub so_of_same : (P : ProgramImage → ℕ → Type 0) (i j : ProgramImage) (h k : ℕ) → i ≡ j → h ≡ k → P i h → P j k
 so_of_same P i j h k images harts is = subst (P j) harts (subst (λ z. P z h) images is)
 
-pub for_memory : {A : Type 0} → (image : ProgramImage) (harts : ℕ) (watch : Watch)
-    (r : Result A OutcomesRefused) → IfErr r (λ why. why ≡ Memory) → IfErr r (IsRefusedFor image harts watch)
-for_memory image harts watch (Ok found) is = tt
-for_memory image harts watch (Err why) is = subst (IsRefusedFor image harts watch) (sym is) tt
-
 -- A search that is cut short finds none.
 pub when_cut_short : (image : ProgramImage) (harts : ℕ) (watch : Watch) (own targets : Targets) (why : Unfound)
     → own ≡ targets → IsCutShort own why → IsUnfoundFor image harts watch targets why
@@ -31,7 +24,7 @@ when_cut_short image harts watch own targets (Refused why) same is = subst (IsRe
 when_cut_short image harts watch own targets (Lacks jump) same is =
     subst (λ (t : Targets). t.anywhere ≡ false) same is
 
--- Of targets that allow all, if those given do, a pass with those given says as much.
+-- A machine whose own targets allow all wherever those given do says of its own ones what is so of those given.
 pub unfound_of_same : {A : Type 0} → (i j : ProgramImage) (h k : ℕ) (watch : Watch) (own given : Targets)
     (r : Result A Unfound) → i ≡ j → h ≡ k → (given.anywhere ≡ true → own.anywhere ≡ true)
     → IfErr r (IsUnfoundFor i h watch own) → IfErr r (IsUnfoundFor j k watch given)
