@@ -10,3 +10,6 @@ pub mod Noted
 pub mod Zero
 pub mod Starting
 pub mod Turns
+pub mod Distinct
+pub mod Dropped
+pub mod Growth

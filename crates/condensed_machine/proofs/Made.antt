@@ -1,5 +1,5 @@
 -- A step of a machine that has learned of the parts of the next state.
-use Rattle.std.proofs.Common.{◌≡◌, ◌≢◌, ℕ, ◌<◌, true, replicate, length, map, sym, ap, subst, ◌∙◌, arith}
+use Rattle.std.proofs.Common.{◌≡◌, ◌≢◌, ℕ, ◌<◌, ◌≤◌, true, replicate, length, map, sym, ap, subst, ◌∙◌, arith}
 use Rattle.std.proofs.Common.{inl, inr}
 use Rattle.std.specs.Prelude.{slice_set, slice_index}
 use Rattle.std.proofs.lemmas.Bool.{cases_eq}
@@ -10,13 +10,14 @@ use Rattle.outcome_laws.specs.{Paths.can_step, Paths.stepped, Local.fits}
 use Rattle.sc_machine.specs.declared.hart.Hart.{Hart}
 use Rattle.changed_memory.specs.Shared.{Shared}
 use Rattle.condensed_machine.specs.Machine.{Program, IsSound, tables_of, Machine, Grows, HasCode, InEachSetup}
-use Rattle.condensed_machine.specs.Decoded.{Decoded, decoded, full, hart_at, hart_in, no_shared, numbers_of}
-use Rattle.condensed_machine.specs.Decoded.{Knows}
+use Rattle.condensed_machine.specs.Decoded.{AreDropped, Decoded, decoded, full, hart_at, hart_in, no_shared, numbers_of}
+use Rattle.condensed_machine.specs.{Decoded.Knows, Numbering.near_harts}
 use Rattle.condensed_machine.specs.Executing.{IsExecuted, IsBehind, ComesToRest, InEachState, SharedAfter}
 use Rattle.condensed_machine.specs.{Tables.HasNumber, Tables.IsSharedAfter, Steps.SettlesBy, Steps.MakesStep}
 use Rattle.condensed_machine.specs.{Resting.keeps_reservation, declared.executed.Executed.Executed}
 use Rattle.condensed_machine.specs.{declared.state.State.State}
 use Rattle.condensed_machine.proofs.{Instructions.can_go}
+use Rattle.condensed_machine.proofs.Dropped.{dropped_next}
 use Rattle.condensed_machine.proofs.Moving.{IsNext, settles_by, hart_is, shared_is}
 use Rattle.condensed_machine.specs.Learning.{still_decoded, still_numbered, kept_within}
 use Rattle.condensed_machine.proofs.Numbers.{own_number, other_number}
@@ -37,6 +38,7 @@ pub record HasDone (m n : Machine) (s t : State) (h steps : ℕ) (x : Hart) (com
   pub rests : ComesToRest m.program behind steps moved
   pub has : HasNumber n.hart_states moved number
   pub numbered : numbers_of n t ≡ slice_set (numbers_of m s) h number
+  pub near : length t.near ≡ near_harts
   pub far : t.far < length n.far_harts
   pub shared : IsSharedAfter m.program.image h done (keeps_reservation m.program.live moved) common n.shared_states
       t.shared
@@ -98,20 +100,9 @@ module _ (m n : Machine) (s t : State) (h steps : ℕ) (sound : IsSound m.progra
             moved.code next setup image harts,
       )
 
-  pub made : InEachSetup n.program (λ setup. MakesStep setup n s h (record { state = t; way = steps }))
-  made = λ setup image harts.
-      let now = makes setup (image ∙ ap (λ (p : Program). p.image) grows.program)
-      (harts ∙ ap (λ (p : Program). p.harts) grows.program) in
-      let then = subst (λ p. Makes setup p (decoded n s)) (sym grows.program)
-      (subst (λ d. Makes setup m.program d) (sym (still_decoded m n s grows knows)) now) in
-      record {
-        can = then.0;
-        fits = then.1;
-        leads = then.2;
-      }
-
   pub known : Knows n t
   known = record {
+    near = moved.near;
     room = ap length moved.numbered ∙ length-set (numbers_of m s) h moved.number ∙ knows.room;
     harts = λ g here.
         subst (λ numbers. slice_index numbers g < length n.hart_states) (sym moved.numbered)
@@ -127,6 +118,27 @@ module _ (m n : Machine) (s t : State) (h steps : ℕ) (sound : IsSound m.progra
               (kept_within m.hart_states n.hart_states (slice_index (numbers_of m s) g) (hart_in m s h)
               grows.hart_states (knows.harts g at))
         ]);
+    absent = λ g beyond.
+        let at : m.program.harts ≤ g = subst (λ (p : Program). p.harts ≤ g) grows.program beyond in
+        let other : g ≢ h = omega (arith, at) in
+        ap (λ numbers. slice_index numbers g) moved.numbered
+        ∙ get_or-set_other (numbers_of m s) h g moved.number 0 other ∙ knows.absent g at;
     far = moved.far;
     shared = slice_get_within n.shared_states t.shared moved.shared.after moved.shared.has;
+    dropped =
+        subst (λ (p : Program). AreDropped p (decoded n t)) (sym grows.program)
+        (dropped_next m.program (decoded m s) (decoded n t) h steps moved.done moved.moved inside next knows.dropped);
   }
+
+  pub made : InEachSetup n.program (λ setup. MakesStep setup n s h (record { state = t; way = steps }))
+  made = λ setup image harts.
+      let now = makes setup (image ∙ ap (λ (p : Program). p.image) grows.program)
+      (harts ∙ ap (λ (p : Program). p.harts) grows.program) in
+      let then = subst (λ p. Makes setup p (decoded n s)) (sym grows.program)
+      (subst (λ d. Makes setup m.program d) (sym (still_decoded m n s grows knows)) now) in
+      record {
+        can = then.0;
+        fits = then.1;
+        leads = then.2;
+        knows = known;
+      }

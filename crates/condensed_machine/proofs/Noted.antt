@@ -163,6 +163,7 @@ module _ (m k n : Machine) (s t : State) (h : ℕ) (from : MoveFrom) (to : MoveT
     rests = move.rests;
     has = second.hart_states to.number move.moved move.has;
     numbered = numbered.numbers_are ∙ ap (λ g. slice_set (numbers_of k s) g to.number) (sym of_hart);
+    near = numbered.near;
     far = numbered.known;
     shared =
         subst (λ (number : ℕ). IsSharedAfter k.program.image from.hart move.done

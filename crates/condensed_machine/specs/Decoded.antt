@@ -1,13 +1,15 @@
 -- What the numbers of a state stand for.
-use Rattle.std.specs.Prelude.{◌≡◌, ℕ, ◌<◌, ◌&&◌, nat_lt, if◌then◌else◌, List, [], map, length}
+use Rattle.std.specs.Prelude.{◌≡◌, ℕ, ◌<◌, ◌≤◌, ◌&&◌, false, None, nat_lt, if◌then◌else◌, List, [], map, length}
 use Rattle.std.specs.Prelude.{slice_index, slice_index_or}
 use Rattle.numbers.specs.Sizes.{most_harts}
 use Rattle.smt_model.specs.{Plain.Plain, Setup.first_number, declared.config.Status.Status}
 use Rattle.smt_model.specs.{declared.config.Status.TheVariants.Going}
+use Rattle.outcome_laws.specs.Live.{reservation_matters}
+use Rattle.live_registers.specs.Table.{kept_of}
 use Rattle.sc_machine.specs.declared.hart.Hart.{Hart}
 use Rattle.changed_memory.specs.Shared.{Shared, byte_at, reserved_at}
 use Rattle.condensed_machine.specs.Machine.{Machine, Program}
-use Rattle.condensed_machine.specs.Numbering.{numbers_in}
+use Rattle.condensed_machine.specs.Numbering.{numbers_in, near_harts}
 use Rattle.condensed_machine.specs.declared.state.State.{State}
 
 -- The parts of a state: each hart, and what they share.
@@ -70,9 +72,17 @@ full p d = record {
 abbrev pub state_of : Machine → State → Plain
 state_of m s = full m.program (decoded m s)
 
--- Each number of a state is that of something that was found.
+-- A reservation that isn't kept isn't there.
+abbrev pub AreDropped : Program → Decoded → Type 0
+AreDropped p d = (h : ℕ) → reservation_matters (kept_of p.live) (full p d) h ≡ false → reserved_at d.shared h ≡ None
+
+-- Each number of a state is that of something that was found; that of a hart that isn't there is 0. No
+-- reservation is there that isn't kept.
 pub record Knows (m : Machine) (s : State) : Type 0 where
+  pub near : length s.near ≡ near_harts
   pub room : length (numbers_of m s) ≡ most_harts
   pub harts : (h : ℕ) → h < length (numbers_of m s) → slice_index (numbers_of m s) h < length m.hart_states
+  pub absent : (h : ℕ) → m.program.harts ≤ h → slice_index (numbers_of m s) h ≡ 0
   pub far : s.far < length m.far_harts
   pub shared : s.shared < length m.shared_states
+  pub dropped : AreDropped m.program (decoded m s)

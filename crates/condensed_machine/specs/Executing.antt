@@ -1,5 +1,5 @@
 -- What one instruction of a hart does, and where the hart goes on to, in the words of the definitions' machine.
-use Rattle.std.specs.Prelude.{◌≡◌, ℕ, ◌<◌, ◌==◌, ◌&&◌, not, Bool, false}
+use Rattle.std.specs.Prelude.{◌≡◌, ℕ, ◌<◌, ◌==◌, ◌&&◌, not, Bool, true, false, None}
 use Rattle.elf_image.specs.Image.{ProgramImage}
 use Rattle.smt_model.specs.{Setup.Setup, Bytes.byte_after, Reservations.reservation_after}
 use Rattle.smt_model.specs.Plain.{Plain, op_at_pc, computes, effect_at, output_after}
@@ -40,9 +40,10 @@ IsBehind setup s h y = HartAgrees (stepped setup h s) h y
 abbrev pub is_dropped : ℕ → Bool → ℕ → Bool
 is_dropped h kept g = g == h && not kept
 
--- The shared parts behind an instruction of hart h. Where the hart's reservation isn't kept nothing is said of it.
+-- The shared parts behind an instruction of hart h. Where the hart's reservation isn't kept it has none.
 pub record SharedAfter (image : ProgramImage) (h : ℕ) (e : Executed) (kept : Bool) (old new : Shared) : Type 0 where
   pub reserved : (g : ℕ) → is_dropped h kept g ≡ false
       → reserved_at new g ≡ reservation_after e.op e.addr e.effect (g == h) (reserved_at old g)
+  pub dropped : (g : ℕ) → is_dropped h kept g ≡ true → reserved_at new g ≡ None
   pub bytes : (a : ℕ) → byte_at image new a ≡ byte_after e.effect.write a (byte_at image old a)
   pub output : new.output ≡ output_after e.effect.out old.output

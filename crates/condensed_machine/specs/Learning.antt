@@ -1,6 +1,6 @@
 -- A machine that learns: what it has said stays true. These are laws of an impl, so they stand here.
-use Rattle.std.specs.Prelude.{◌≡◌, ℕ, suc, ◌<◌, Bool, true, ◌&&◌, nat_eq, List, [], ◌∷◌, ◌++◌, map, length, replicate}
-use Rattle.std.specs.Prelude.{slice_index, slice_index_or, Option, Some, None, IfSome}
+use Rattle.std.specs.Prelude.{◌≡◌, ℕ, suc, ◌<◌, ◌≤◌, Bool, true, ◌&&◌, nat_eq, List, [], ◌∷◌, ◌++◌, map, length}
+use Rattle.std.specs.Prelude.{replicate, slice_index, slice_index_or, Option, Some, None, IfSome}
 use Rattle.std.proofs.Common.{refl, sym, ap, ap₂, subst, ◌∙◌, suc-le-suc, zero-le}
 use Rattle.std.proofs.lemmas.Option.{slice_get-get_or, get_or_from_slice_get, slice_get_within}
 use Rattle.std.specs.Cmp.{first_so, second_so, unsigned_Decides}
@@ -11,7 +11,7 @@ use Rattle.sc_machine.specs.declared.hart.Hart.{Hart}
 use Rattle.changed_memory.specs.Shared.{Shared}
 use Rattle.searches.specs.declared.step.Step.{Step}
 use Rattle.condensed_machine.specs.Machine.{Program, tables_of, Machine, Grows, Keeps}
-use Rattle.condensed_machine.specs.Decoded.{Decoded, decoded, full, hart_at, no_hart, no_shared, numbers_of}
+use Rattle.condensed_machine.specs.Decoded.{AreDropped, Decoded, decoded, full, hart_at, no_hart, no_shared, numbers_of}
 use Rattle.condensed_machine.specs.Decoded.{state_of, Knows}
 use Rattle.condensed_machine.specs.Steps.{SettlesBy, MakesStep, Steps}
 use Rattle.condensed_machine.specs.declared.state.State.{State}
@@ -53,14 +53,21 @@ still_decoded m n s grows knows =
 
 pub still_knows : (m n : Machine) (s : State) → Grows m n → Knows m s → Knows n s
 still_knows m n s grows knows = record {
+  near = knows.near;
   room = ap length (still_numbered m n s grows knows) ∙ knows.room;
   harts =
       subst (λ numbers. (h : ℕ) → h < length numbers → slice_index numbers h < length n.hart_states)
       (sym (still_numbered m n s grows knows))
       (λ h inside. kept_within m.hart_states n.hart_states (slice_index (numbers_of m s) h) no_hart
       grows.hart_states (knows.harts h inside));
+  absent = λ h beyond.
+      ap (λ numbers. slice_index numbers h) (still_numbered m n s grows knows)
+      ∙ knows.absent h (subst (λ (p : Program). p.harts ≤ h) grows.program beyond);
   far = kept_within m.far_harts n.far_harts s.far [] grows.far_harts knows.far;
   shared = kept_within m.shared_states n.shared_states s.shared no_shared grows.shared_states knows.shared;
+  dropped =
+      subst (λ (p : Program). AreDropped p (decoded n s)) (sym grows.program)
+      (subst (AreDropped m.program) (sym (still_decoded m n s grows knows)) knows.dropped);
 }
 
 pub learns_nothing : (m : Machine) → Grows m m
@@ -104,6 +111,7 @@ still_makes m n s h step setup grows knows next makes =
           (subst (λ (u : Plain). SettlesBy setup m.program order (stepped setup h u) (state_of n step.state)) (sym here)
           (subst (λ (u : Plain). SettlesBy setup m.program order (stepped setup h (state_of m s)) u) (sym there)
           makes.leads));
+      knows = still_knows m n step.state grows next;
     }
 
 pub still_true : (m n : Machine) (s : State) (h : ℕ) (next : Option (Step State ℕ)) → Grows m n → Knows m s

@@ -10,4 +10,5 @@ pub mod Tables
 pub mod Moves
 pub mod Steps
 pub mod Beginning
+pub mod Distinct
 pub mod Learning

@@ -2,11 +2,16 @@
 use Rattle.std.specs.Prelude.{◌≡◌, ℕ, ◌<◌, List, [], ◌++◌, length, slice_index_or, slice_set}
 use Rattle.condensed_machine.specs.declared.state.State.{State}
 
+-- How many harts stand in a state by their own numbers.
+abbrev pub near_harts : ℕ
+near_harts = 4
+
 abbrev pub numbers_in : List (List ℕ) → State → List ℕ
 numbers_in far_harts s = s.near ++ slice_index_or far_harts s.far []
 
 -- The harts of a state have these numbers, and what they share this one.
 pub record HasNumbers (far_harts : List (List ℕ)) (numbers : List ℕ) (shared : ℕ) (s : State) : Type 0 where
+  pub near : length s.near ≡ near_harts
   pub numbers_are : numbers_in far_harts s ≡ numbers
   pub shared_is : s.shared ≡ shared
   pub known : s.far < length far_harts

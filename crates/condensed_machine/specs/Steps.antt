@@ -5,7 +5,7 @@ use Rattle.smt_model.specs.{Setup.Setup, Plain.Plain, Plain.start}
 use Rattle.outcome_laws.specs.{Paths.can_step, Paths.stepped, Local.fits, Search.Settles}
 use Rattle.searches.specs.declared.step.Step.{Step}
 use Rattle.condensed_machine.specs.{Resting.is_watched, Machine.Program, Machine.tables_of, Machine.Machine}
-use Rattle.condensed_machine.specs.{Machine.InEachSetup, Decoded.state_of}
+use Rattle.condensed_machine.specs.{Machine.InEachSetup, Decoded.state_of, Decoded.Knows}
 use Rattle.condensed_machine.specs.declared.begun.Begun.{Begun}
 use Rattle.condensed_machine.specs.declared.state.State.{State}
 
@@ -14,12 +14,14 @@ pub record SettlesBy (setup : Setup) (p : Program) (order : List ℕ) (s t : Pla
   pub settles : Settles setup (is_watched p.watched) (tables_of p) s t
   pub by : settles.order ≡ order
 
--- Hart h can step, its step fits the tables, and after it and so many local ones of its own the state is the next.
+-- Hart h can step, its step fits the tables, and after it and so many local ones of its own the state is the next,
+-- which the machine knows.
 pub record MakesStep (setup : Setup) (m : Machine) (s : State) (h : ℕ) (step : Step State ℕ) : Type 0 where
   pub can : can_step setup h (state_of m s) ≡ true
   pub fits : fits setup (tables_of m.program) h (state_of m s) ≡ true
   pub leads : SettlesBy setup m.program (replicate step.way h) (stepped setup h (state_of m s))
       (state_of m step.state)
+  pub knows : Knows m step.state
 
 -- Hart h has no step, or this one.
 abbrev pub Steps : Machine → State → ℕ → Option (Step State ℕ) → Type 0

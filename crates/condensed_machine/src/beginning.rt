@@ -4,6 +4,7 @@ ghost use Rattle.std.specs.Prelude.{◌≡◌, ℕ, ◌<◌, ◌≤◌, IfOk, le
 ghost use Rattle.numbers.specs.Sizes.{most_harts};
 ghost use Rattle.condensed_machine.specs.Beginning.{HaveBegun};
 ghost use Rattle.condensed_machine.specs.Decoded.{Knows};
+ghost use Rattle.condensed_machine.specs.Distinct.{AreAtRest, HaveRegisters};
 ghost use Rattle.condensed_machine.specs.Machine.{Grows, HaveZero, Keeps};
 ghost use Rattle.condensed_machine.specs.Steps.{HasBegun};
 
@@ -49,6 +50,9 @@ fn first_harts(program: &Program, table: &mut IndexSet<Hart>) -> Result<First, A
         → slice_index first.numbers h ≡ 0) }
     ensures room { IfOk result (λ first. length first.numbers ≡ most_harts) }
     ensures zero { HaveZero table.old.keys → HaveZero table.new.keys }
+    ensures registers { HaveRegisters table.old.keys → HaveRegisters table.new.keys }
+    ensures rest { AreAtRest program.now.live program.now.watched table.old.keys
+        → AreAtRest program.now.live program.now.watched table.new.keys }
 {
     let mut first = First {
         numbers: [0; HART_ROOM],

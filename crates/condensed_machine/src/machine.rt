@@ -6,6 +6,7 @@ ghost use Rattle.rv_execute.specs.Access.{IsSize};
 ghost use Rattle.smt_model.specs.Bytes.{number_at};
 ghost use Rattle.smt_model.specs.Faults.{read_fault};
 ghost use Rattle.condensed_machine.specs.Decoded.{Knows, decoded, hart_at, hart_in, numbers_of, shared_at, state_of};
+ghost use Rattle.condensed_machine.specs.Distinct.{AreDistinct};
 ghost use Rattle.condensed_machine.specs.Machine.{IsNew};
 
 use crate::moves::{MoveFrom, MoveTo};
@@ -14,6 +15,7 @@ use crate::program::Program;
 use crate::resting::REGISTERS;
 use crate::state::{FAR_HARTS, State};
 use changed_memory::SharedState;
+use changed_memory::laws::equal_memories_are_one_list;
 use elf_image::Image;
 use indexmap::{IndexMap, IndexSet};
 use live_registers::Targets;
@@ -93,12 +95,24 @@ impl CondensedMachine {
         }
     }
 
-    /// How many harts there are, 1 to `MOST_HARTS`.
+    /// How many harts there are, 1 to `MOST_HARTS`. No two states that the machine knows are alike.
     pub fn harts(&self) -> u8
         ensures value { result ≡ self.now.program.harts }
         ensures few { result ≤ most_harts }
+        ensures distinct { AreDistinct self.now }
     {
+        self.states_are_distinct();
         self.program.harts()
+    }
+
+    /// Each state has its numbers alone, as no table has a part twice. It does nothing: it is there for its contract.
+    fn states_are_distinct(&self)
+        ensures { AreDistinct self.now }
+    {
+        equal_memories_are_one_list();
+        let _harts = self.hart_states.as_slice();
+        let _far = self.far_harts.as_slice();
+        let _shared = self.shared_states.as_slice();
     }
 
     /// How a hart stands in a state.

@@ -1,12 +1,15 @@
 //! The harts and the shared parts that were found, by their numbers.
 
-ghost use Rattle.std.specs.Prelude.{◌≡◌, ℕ, ◌<◌, false, Some, IfOk, IfSome, slice_index, slice_get, length};
+ghost use Rattle.std.specs.Prelude.{◌≡◌, ℕ, ◌<◌, Bool, List, true, false, None, Some, is_some};
+ghost use Rattle.std.specs.Prelude.{IfOk, IfSome, slice_index, slice_get, length};
 ghost use Rattle.numbers.specs.Sizes.{most_harts};
 ghost use Rattle.shared_memory.specs.Contents.{CanWrite, IsStart};
 ghost use Rattle.elf_image.specs.Image.{ProgramImage};
+ghost use Rattle.live_registers.specs.declared.table.LiveTable.{LiveTable};
 ghost use Rattle.condensed_machine.specs.Machine.{HasCode, HaveCode, HaveZero, Keeps};
-ghost use Rattle.changed_memory.specs.Shared.{reserved_at};
+ghost use Rattle.changed_memory.specs.{Canonical.IsCanonical, Shared.reserved_at};
 ghost use Rattle.condensed_machine.specs.Decoded.{shared_at};
+ghost use Rattle.condensed_machine.specs.Distinct.{AreAtRest, HaveOneForm, HaveRegisters, IsAtRest};
 ghost use Rattle.condensed_machine.specs.Executing.{is_dropped};
 ghost use Rattle.condensed_machine.specs.Tables.{HasNumber, IsSharedAfter};
 
@@ -23,6 +26,9 @@ pub(crate) fn number_hart(harts: &mut IndexSet<Hart>, hart: Hart) -> Result<u32,
     ensures number { IfOk result (HasNumber harts.new.keys hart) }
     ensures zero { HaveZero harts.old.keys → slice_index hart.registers 0 ≡ 0
         → HaveZero harts.new.keys }
+    ensures registers { HaveRegisters harts.old.keys → HaveRegisters harts.new.keys }
+    ensures rest { (live : LiveTable) (watched : List Bool) → AreAtRest live watched harts.old.keys
+        → IsAtRest live watched hart → AreAtRest live watched harts.new.keys }
 {
     let (place, _) = harts.insert_full(hart)?;
     number_of(place)
@@ -48,6 +54,8 @@ pub(crate) fn number_shared(
     ensures number { IfOk result (λ number. IsSharedAfter start.now.image hart executed is_kept
         (shared_at shared.old.keys before) shared.new.keys number) }
     ensures code { HaveCode start.now.image shared.old.keys → HaveCode start.now.image shared.new.keys }
+    ensures forms { HaveOneForm start.now.image shared.old.keys
+        → HaveOneForm start.now.image shared.new.keys }
 {
     let Executed { op, addr, effect } = executed;
     if keeps_shared(op, effect) && (is_kept || !has_reservation(shared, before, hart)) {
@@ -63,6 +71,7 @@ pub(crate) fn number_shared(
 fn has_reservation(shared: &IndexSet<SharedState>, number: u32, hart: u8) -> bool
     requires inside { number < length shared.now.keys }
     requires hart { hart < most_harts }
+    ensures { result ≡ is_some (reserved_at (shared_at shared.now.keys number) hart) }
 {
     shared.as_slice()[number as usize].has_reservation(hart)
 }
@@ -73,7 +82,10 @@ fn rest_reservation(shared: &mut SharedState, hart: u8, is_kept: bool)
     ensures changes { shared.new.changes ≡ shared.old.changes }
     ensures reserved { (h : ℕ) → is_dropped hart is_kept h ≡ false
         → reserved_at shared.new h ≡ reserved_at shared.old h }
+    ensures dropped { (h : ℕ) → is_dropped hart is_kept h ≡ true → reserved_at shared.new h ≡ None }
     ensures output { shared.new.output ≡ shared.old.output }
+    ensures form { (image : ProgramImage) → IsCanonical image shared.old
+        → IsCanonical image shared.new }
 {
     if !is_kept {
         shared.end_reservation(hart);
@@ -91,6 +103,8 @@ pub(crate) fn number_of_shared(
     ensures number { IfOk result (HasNumber shared.new.keys wanted.now) }
     ensures code { (image : ProgramImage) → HaveCode image shared.old.keys → HasCode image wanted.now
         → HaveCode image shared.new.keys }
+    ensures forms { (image : ProgramImage) → HaveOneForm image shared.old.keys
+        → IsCanonical image wanted.now → HaveOneForm image shared.new.keys }
 {
     if let Some(place) = shared.get_index_of(wanted) {
         return number_of(place);
@@ -105,6 +119,8 @@ fn number_new(shared: &mut IndexSet<SharedState>, new: SharedState) -> Result<u3
     ensures number { IfOk result (HasNumber shared.new.keys new) }
     ensures code { (image : ProgramImage) → HaveCode image shared.old.keys → HasCode image new
         → HaveCode image shared.new.keys }
+    ensures forms { (image : ProgramImage) → HaveOneForm image shared.old.keys → IsCanonical image new
+        → HaveOneForm image shared.new.keys }
 {
     let (place, _) = shared.insert_full(new)?;
     number_of(place)

@@ -8,6 +8,7 @@ mod Growing
 mod Collected
 mod Throughout
 mod Telling
+mod Counting
 mod Cores
 mod Reading
 mod Claims

@@ -1,6 +1,6 @@
 -- Each outcome that is listed has its order, be the search whole or not.
-use Rattle.std.specs.Prelude.{◌≡◌, ◌≢◌, ℕ, ◌<◌, List, Option, Some, None, AllPairs, Contains, IfSome, map, length, slice_get}
-use Rattle.std.proofs.Common.{◌∙◌, refl, sym, ap, subst, arith}
+use Rattle.std.specs.Prelude.{◌≡◌, ◌≢◌, ℕ, ◌<◌, List, Option, Some, None, AllPairs, Contains, map}
+use Rattle.std.proofs.Common.{◌∙◌, sym, ap, subst, arith}
 use Rattle.smt_model.specs.{Setup.Setup, Plain.Plain, Plain.start}
 use Rattle.outcome_laws.proofs.Search.{flip}
 use Rattle.outcome_laws.proofs.Settling.{end_alike}
@@ -9,8 +9,7 @@ use Rattle.searches.specs.declared.extent.Extent.{Extent}
 use Rattle.searches.specs.declared.extent.Extent.TheVariants.{Whole, Beyond, First}
 use Rattle.searches.specs.{Found.Found as Graph, Found.IsGraph, Found.IsPart, Found.IsEdge, Found.edge_at}
 use Rattle.searches.specs.Found.{IsExplored, IsToldFor, IsEndAt}
-use Rattle.searches.specs.Ending.{IsLeastStuck}
-use Rattle.searches.proofs.Places.{element_at, same_element}
+use Rattle.searches.proofs.Places.{element_at}
 use Rattle.condensed_machine.specs.{Machine.Machine, Machine.IsSound as IsSoundProgram, Decoded.state_of}
 use Rattle.condensed_machine.specs.Steps.{Steps, HasBegun}
 use Rattle.condensed_machine.specs.declared.{begun.Begun.Begun, state.State.State}
@@ -18,7 +17,7 @@ use Rattle.outcomes.specs.declared.{listed.Listed.Listed}
 use Rattle.watched_outcomes.specs.declared.{watch.Watch.Watch}
 use Rattle.outcomes.specs.{Refusals.AreWatched}
 use Rattle.watched_outcomes.specs.{Endings.Ending, Endings.ending_of, Watching.AreThere}
-use Rattle.outcomes.specs.Collected.{ending_at, IsOfEnd, AreOutcomes, IsAskedAt}
+use Rattle.outcomes.specs.Collected.{IsOfEnd, AreOutcomes, IsAskedAt}
 use Rattle.outcomes.specs.Found.{Told, EndsSo}
 use Rattle.outcomes.specs.Told.{told_of, order_at}
 use Rattle.outcomes.proofs.{Listing.contains_map, Listing.mapped_from, Endings.alike_ends}

@@ -1,5 +1,4 @@
 -- What is watched of a machine stays there, whatever it learns.
-use Rattle.std.specs.Prelude.{◌≡◌}
 use Rattle.std.proofs.Common.{sym, subst}
 use Rattle.condensed_machine.specs.Machine.{Machine, Program, Grows}
 use Rattle.watched_outcomes.specs.{declared.watch.Watch.Watch, Watching.AreThere}

@@ -2,6 +2,7 @@ pub mod Lists
 pub mod Collected
 pub mod Found
 pub mod Told
+pub mod Reached
 pub mod Refusals
 pub mod Passes
 pub mod Parts

@@ -3,15 +3,12 @@ use Rattle.std.specs.Prelude.{◌≡◌, ℕ, ◌<◌, true, false, List, Bool, 
 use Rattle.elf_image.specs.Image.{ProgramImage}
 use Rattle.smt_model.specs.Faults.{read_fault}
 use Rattle.sc_machine.specs.Steps.{are_harts}
-use Rattle.searches.specs.Found.{Exceeds}
-use Rattle.condensed_machine.specs.Machine.{Machine}
-use Rattle.condensed_machine.specs.{Steps.Steps, Steps.HasBegun}
-use Rattle.condensed_machine.specs.declared.begun.Begun.{Begun}
 use Rattle.watched_outcomes.specs.declared.{watch.Watch.Watch, watch.WatchedRegister.WatchedRegister}
 use Rattle.outcomes.specs.declared.refused.OutcomesRefused.{OutcomesRefused}
 use Rattle.outcomes.specs.declared.refused.OutcomesRefused.TheVariants.{Harts, Register, Word, Memory}
 use Rattle.watched_outcomes.specs.declared.watch.WatchedBytes.{WatchedBytes}
 use Rattle.watched_outcomes.specs.Watching.{IsAbsentRegister, bytes_of}
+use Rattle.outcomes.specs.{Found.InEachSetup, Reached.ReachesMany}
 
 -- These bytes can be loaded; and so can all that are watched.
 abbrev pub CanLoad : ProgramImage → WatchedBytes → Type 0
@@ -30,11 +27,10 @@ abbrev pub IsAbsentWord : ProgramImage → Watch → ℕ → Type 0
 IsAbsentWord image watch index =
     (w : WatchedBytes) × (slice_get watch.words.items index ≡ Some w) × (CanLoad image w → ⊥)
 
--- More states than the budget, pairwise different, can be reached.
+-- Orders of harts lead the plain machine to more states than the budget.
 abbrev pub IsBeyond : ProgramImage → ℕ → ℕ → Type 0
 IsBeyond image harts budget =
-    (m : Machine) × (begun : Begun) × (m.program.image ≡ image) × (m.program.harts ≡ harts) × HasBegun m begun
-    × Exceeds (Steps m) begun.state budget
+    InEachSetup image harts (λ setup. (n : ℕ) × (budget < n) × ReachesMany setup n)
 
 -- When each refusal comes. Of memory nothing is said.
 abbrev pub IsRefusedFor : ProgramImage → ℕ → Watch → OutcomesRefused → Type 0

@@ -3,7 +3,7 @@ use Rattle.std.specs.Prelude.{slice_set, slice_index}
 use Rattle.std.proofs.lemmas.List.{length-set}
 use Rattle.condensed_machine.specs.Beginning.{HaveBegun}
 use Rattle.condensed_machine.proofs.Starting.{begun_more, absent_more}
-use Rattle.condensed_machine.proofs.Zero.{zero_rests}
+use Rattle.condensed_machine.proofs.{Distinct.at_rest, Zero.zero_rests}
 use Rattle.condensed_machine.proofs.beginning.first_harts.Goals as goal
 
 pub returns-in_err-first-clause-zero : goal.returns-in_err-first-clause-zero
@@ -11,6 +11,12 @@ returns-in_err-first-clause-zero c = λ before.
     c.number_hart.ensures.zero (c.loop-hart.invariant.zero before)
     (zero_rests c.args.program.now c.first_hart-state.result c.come_to_rest.new.state c.come_to_rest.result
     c.come_to_rest.ensures (c.first_hart-state.ensures.registers 0))
+
+pub returns-in_err-first-clause-rest : goal.returns-in_err-first-clause-rest
+returns-in_err-first-clause-rest c = λ before.
+    let p = c.args.program.now in
+    c.number_hart.ensures.rest p.live p.watched (c.loop-hart.invariant.rest before)
+    (at_rest p c.first_hart-state.result c.come_to_rest.new.state c.come_to_rest.result c.come_to_rest.ensures)
 
 pub loop-hart-preserved : goal.loop-hart-preserved
 loop-hart-preserved c =
@@ -51,4 +57,8 @@ loop-hart-preserved c =
           c.number_hart.ensures.zero (c.loop-hart.invariant.zero before)
           (zero_rests p c.first_hart-state.result c.come_to_rest.new.state way c.come_to_rest.ensures
           (c.first_hart-state.ensures.registers 0));
+      rest = λ before.
+          c.number_hart.ensures.rest p.live p.watched (c.loop-hart.invariant.rest before)
+          (at_rest p c.first_hart-state.result c.come_to_rest.new.state way c.come_to_rest.ensures);
+      registers = λ before. c.number_hart.ensures.registers (c.loop-hart.invariant.registers before);
     }

@@ -1,5 +1,5 @@
-use Rattle.std.proofs.Common.{◌≤◌, length, drop, [], ◌++◌, ap₂, refl, ◌∙◌, arith}
-use Rattle.std.proofs.lemmas.List.{length-drop, take_all, take-append-drop}
+use Rattle.std.proofs.Common.{◌≤◌, length, drop, [], ◌++◌, ap, ap₂, refl, ◌∙◌, arith}
+use Rattle.std.proofs.lemmas.List.{length-drop, length-take-le, take_all, take-append-drop}
 use Rattle.std.proofs.lemmas.Option.{get_or_from_slice_get, slice_get_within}
 use Rattle.condensed_machine.proofs.numbering.state_of.Goals as goal
 
@@ -11,6 +11,7 @@ returns-clause-numbered c =
     let has = c.in_ok-far.ensures.number in
     let few : length (drop 4 numbers) ≤ 12 = omega (arith, length-drop 4 numbers, c.requires) in
     record {
+      near = ap length c.copy_from_slice.ensures.after ∙ length-take-le 4 numbers (omega (arith, c.requires));
       numbers_are =
           ap₂ ◌++◌ c.copy_from_slice.ensures.after
           (get_or_from_slice_get keys c.in_ok-far.far others [] has ∙ c.copy_from_slice-2.ensures.after

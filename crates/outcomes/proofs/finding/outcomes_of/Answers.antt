@@ -19,6 +19,7 @@ returns-clause-found g c =
     c.args.explored.extent c.requires.explored c.args.watch.now c.requires.watched c.requires.registers
     c.in-Ok.listed.items c.in-Ok.ensures.outcomes c.in-Ok-stuck_of.stuck c.in-Ok-stuck_of.ensures.whole
     c.in-Ok-unwritten_of.unwritten.items c.in-Ok-unwritten_of.ensures c.harts.result c.harts.ensures.value
+    c.requires.known c.harts.ensures.distinct
 
 pub returns-clause-asked : goal.returns-clause-asked
 returns-clause-asked g c =

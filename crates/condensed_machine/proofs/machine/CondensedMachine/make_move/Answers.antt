@@ -3,13 +3,14 @@ use Rattle.std.specs.Prelude.{slice_index, slice_get}
 use Rattle.std.proofs.lemmas.Option.{slice_get-get_or}
 use Rattle.elf_image.specs.Image.{ProgramImage}
 use Rattle.condensed_machine.specs.Machine.{Machine, Grows, HasCode, HaveCode, HaveZero}
+use Rattle.condensed_machine.specs.Distinct.{AreAtRest, HaveOneForm, HaveRegisters}
 use Rattle.condensed_machine.specs.MachineInside.{machine_of}
 use Rattle.condensed_machine.specs.Decoded.{hart_at, shared_at, no_hart, no_shared}
 use Rattle.condensed_machine.specs.{Tables.IsSharedAfter, Resting.keeps_reservation, Moves.AreMoves}
 use Rattle.outcome_laws.specs.Local.{keeps_to}
 use Rattle.live_registers.specs.Targets.{allows}
 use Rattle.condensed_machine.proofs.{Coded.codes_kept, Instructions.fits_noted, Instructions.keeps_where_none}
-use Rattle.condensed_machine.proofs.Noted.{moves_stay}
+use Rattle.condensed_machine.proofs.{Distinct.at_rest, Distinct.forms_kept, Noted.moves_stay}
 use Rattle.condensed_machine.proofs.Zero.{zero_behind, zero_rests}
 use Rattle.condensed_machine.proofs.machine.CondensedMachine.make_move.Goals as goal
 use Rattle.condensed_machine.proofs.machine.CondensedMachine.make_move.Goals.{After-number_hart, After-number_shared}
@@ -62,6 +63,22 @@ zeros c =
     (zero_behind p c.args.from.hart c.numbered_hart.result.now c.execute-executed.new.state
     c.numbered_shared-before.result.now c.execute-executed.ensures.behind (zero_before c)))
 
+rest : (c : After-number_hart) → AreAtRest c.self.inside.program.live c.self.inside.program.watched
+    c.number_hart.new.harts.keys
+rest c =
+    let p = c.self.inside.program in
+    c.number_hart.ensures.rest p.live p.watched c.self.invariant.rest
+    (at_rest p c.execute-executed.new.state c.come_to_rest-way.new.state c.come_to_rest-way.result
+    c.come_to_rest-way.ensures)
+
+registers : (c : After-number_hart) → HaveRegisters c.number_hart.new.harts.keys
+registers c = c.number_hart.ensures.registers c.self.invariant.registers
+
+forms : (c : After-number_shared) → HaveOneForm c.self.inside.program.image c.number_shared.new.shared.keys
+forms c =
+    forms_kept c.self.inside.program.image c.start.result.now.image c.self.inside.shared_states.keys
+    c.number_shared.new.shared.keys c.start.ensures.image c.number_shared.ensures.forms c.self.invariant.forms
+
 codes : (c : After-number_shared) → HaveCode c.self.inside.program.image c.number_shared.new.shared.keys
 codes c =
     codes_kept c.self.inside.program.image c.start.result.now.image c.self.inside.shared_states.keys
@@ -85,7 +102,10 @@ pub invariant_of-self : goal.invariant_of-self
 invariant_of-self c = record {
   sound = c.self.invariant.sound;
   zero = zeros (goal.at.invariant_of-self c).After-number_hart;
+  registers = registers (goal.at.invariant_of-self c).After-number_hart;
+  rest = rest (goal.at.invariant_of-self c).After-number_hart;
   code = c.self.invariant.code;
+  forms = c.self.invariant.forms;
   moves = moves_first (goal.at.invariant_of-self c).After-number_hart;
 }
 
@@ -93,7 +113,10 @@ pub invariant_of-self-in_err-shared : goal.invariant_of-self-in_err-shared
 invariant_of-self-in_err-shared c = record {
   sound = c.self.invariant.sound;
   zero = zeros (goal.at.invariant_of-self-in_err-shared c).After-number_hart;
+  registers = registers (goal.at.invariant_of-self-in_err-shared c).After-number_hart;
+  rest = rest (goal.at.invariant_of-self-in_err-shared c).After-number_hart;
   code = codes (goal.at.invariant_of-self-in_err-shared c).After-number_shared;
+  forms = forms (goal.at.invariant_of-self-in_err-shared c).After-number_shared;
   moves = moves_then (goal.at.invariant_of-self-in_err-shared c).After-number_shared;
 }
 
@@ -101,7 +124,10 @@ pub invariant_of-self-2 : goal.invariant_of-self-2
 invariant_of-self-2 c = record {
   sound = c.self.invariant.sound;
   zero = zeros (goal.at.invariant_of-self-2 c).After-number_hart;
+  registers = registers (goal.at.invariant_of-self-2 c).After-number_hart;
+  rest = rest (goal.at.invariant_of-self-2 c).After-number_hart;
   code = codes (goal.at.invariant_of-self-2 c).After-number_shared;
+  forms = forms (goal.at.invariant_of-self-2 c).After-number_shared;
   moves = moves_then (goal.at.invariant_of-self-2 c).After-number_shared;
 }
 

@@ -17,7 +17,10 @@ pub invariant_of-self : goal.invariant_of-self
 invariant_of-self c = record {
   sound = c.self.invariant.sound;
   zero = c.self.invariant.zero;
+  registers = c.self.invariant.registers;
+  rest = c.self.invariant.rest;
   code = c.self.invariant.code;
+  forms = c.self.invariant.forms;
   moves = moves (goal.at.invariant_of-self c).After-insert;
 }
 
@@ -25,6 +28,9 @@ pub invariant_of-self-2 : goal.invariant_of-self-2
 invariant_of-self-2 c = record {
   sound = c.self.invariant.sound;
   zero = c.self.invariant.zero;
+  registers = c.self.invariant.registers;
+  rest = c.self.invariant.rest;
   code = c.self.invariant.code;
+  forms = c.self.invariant.forms;
   moves = moves (goal.at.invariant_of-self-2 c).After-insert;
 }
