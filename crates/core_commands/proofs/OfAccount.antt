@@ -1,5 +1,5 @@
 -- What is printed of a core, from what its report says of its account.
-use Rattle.std.specs.Prelude.{◌≡◌, ℕ, Bool, false, List, [], ◌++◌, Option, Result, Ok, Err, is_err, OnOk}
+use Rattle.std.specs.Prelude.{◌≡◌, ℕ, Bool, false, List, [], ◌++◌, Option, Some, Result, Ok, Err, is_err, OnOk}
 use Rattle.std.specs.Prelude.{length, take, true, if◌then◌else◌, is_some}
 use Rattle.std.proofs.{Common.refl, Common.sym, Common.ap, Common.subst, Common.◌∙◌, lemmas.Bool.false≢true}
 use Rattle.std.specs.Io.KnownBytes.{Appends}
@@ -13,11 +13,16 @@ use Rattle.history_counts.proofs.Listing.{how_many-reverse}
 use Rattle.address_labels.specs.Labels.{Marks}
 use Rattle.report_lines.specs.Lines.{records_text, status_number}
 use Rattle.reports.specs.Report.{is_load_record, looks_line}
+use Rattle.text_fields.specs.Printing.{Prints}
 use Rattle.text_fields.proofs.Appending.{appends_more}
 use Rattle.core_commands.specs.Wanted.{Wants}
-use Rattle.core_commands.specs.Account.{AreTables, IsReported, looks_of, statuses_of, retired_of, body_text, body_of}
-use Rattle.core_commands.specs.Account.{story_of}
+use Rattle.core_commands.specs.Account.{AreEndReasons, AreTables, IsReported, looks_of, statuses_of, retired_of}
+use Rattle.core_commands.specs.Account.{body_text, body_of, story_of}
 use Rattle.core_commands.specs.Account.{counts_in, idle_of}
+
+-- What was printed into nothing is all that is there then.
+pub printed_all : (P : List ℕ → Type 0) (old new : List ℕ) → old ≡ [] → Prints (Some old) (Some new) P → P new
+printed_all P old new none printed = subst P (sym (printed.2 ∙ ap (λ t. t ++ printed.0) none)) printed.1
 
 -- A call that gave no error has done what it does where it gives none.
 pub on_ok_done : {A E : Type 0} (r : Result A E) (P : Type 0) → is_err r ≡ false → OnOk r P → P
@@ -55,8 +60,8 @@ module _ (core : CoreView) (wanted : Wants) (marks : Marks) (rs : List Record) (
   -- Its tables were printed, and then its report.
   pub reported : (first_old old mid behind new : Option (List ℕ)) (tables bytes looked ends : List ℕ)
       (stand : List Status) (exit_status : ℕ) → Appends first_old old (story_of wanted.story marks core)
-      → AreTables wanted.tables tables
-      → AreTables (is_some wanted.ends) ends → bytes ≡ tables → Appends old mid bytes
+      → AreTables wanted.tables core tables
+      → AreEndReasons (is_some wanted.ends) ends → bytes ≡ tables → Appends old mid bytes
       → looked ≡ looks_of wanted.looks core → Appends mid behind looked
       → Appends behind new
       (records_text wanted.records marks rs ++ body_text wanted.json events rs lent statuses put counts idle ends)

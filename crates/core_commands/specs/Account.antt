@@ -14,7 +14,8 @@ use Rattle.symbols.specs.Tables.{Table}
 use Rattle.address_labels.specs.Labels.{Marks, no_marks}
 use Rattle.report_lines.specs.Lines.{records_text, status_number}
 use Rattle.reports.specs.Report.{looks_line, report_text}
-use Rattle.reports.specs.{CountLines.count_lines, Counts.idle_lines, Json.json_text, Traces.trace_of}
+use Rattle.reports.specs.{CountLines.count_lines, Counts.idle_lines, Json.json_text, Tables.AreTablesOf}
+use Rattle.reports.specs.Traces.{trace_of}
 use Rattle.story_text.specs.Text.{Plan}
 use Rattle.plain_commands.specs.Plain.{told_text}
 use Rattle.core_commands.specs.Wanted.{StoryRows, Wants}
@@ -38,10 +39,15 @@ story_of story marks core = told_text (option_map (core_plan core marks) story) 
 abbrev pub kept_story : Table → CoreView → List ℕ
 kept_story names core = story_of (Some (record { all = false; names = names })) no_marks core
 
--- The tables' text: some text where they are wanted, and else none.
-abbrev pub AreTables : Bool → List ℕ → Type 0
-AreTables true text = Unit {0}
-AreTables false text = text ≡ []
+-- The text of a core's tables where they are wanted, and else none.
+abbrev pub AreTables : Bool → CoreView → List ℕ → Type 0
+AreTables true core text = AreTablesOf core text
+AreTables false core text = text ≡ []
+
+-- Why its harts stand where they do: some text where that is wanted, and else none.
+abbrev pub AreEndReasons : Bool → List ℕ → Type 0
+AreEndReasons true text = Unit {0}
+AreEndReasons false text = text ≡ []
 
 -- How many of its loads looked again, where that is wanted: its loads are those that retired with an
 -- rd other than x0 and didn't stop.
@@ -81,9 +87,9 @@ body_of as_json with_counts core idle ends =
 -- the actors' asks so many were answered idle.
 pub record IsAccount (core : CoreView) (idle : List ℕ) (wanted : Wants) (marks : Marks) (text : List ℕ) : Type 0 where
   pub tables : List ℕ
-  pub are_tables : AreTables wanted.tables tables
+  pub are_tables : AreTables wanted.tables core tables
   pub ends : List ℕ
-  pub are_ends : AreTables (is_some wanted.ends) ends
+  pub are_ends : AreEndReasons (is_some wanted.ends) ends
   pub whole : text
       ≡ story_of wanted.story marks core ++ (tables ++ (looks_of wanted.looks core
       ++ (records_text wanted.records marks (retired_of core)

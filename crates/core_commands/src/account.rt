@@ -10,7 +10,7 @@ ghost use Rattle.address_labels.specs.Labels.{marks_of};
 ghost use Rattle.report_lines.specs.Lines.{records_text};
 ghost use Rattle.reports.specs.Report.{is_load_record, looks_line};
 ghost use Rattle.command_parts.specs.declared.refused.Refused.TheVariants.{Memory, Output};
-ghost use Rattle.core_commands.specs.Account.{AreTables, IsReported, IsTraceWritten, counts_in};
+ghost use Rattle.core_commands.specs.Account.{AreEndReasons, AreTables, IsReported, IsTraceWritten, counts_in};
 ghost use Rattle.core_commands.specs.Account.{body_text, numbers_text, idle_of};
 ghost use Rattle.core_commands.specs.Wanted.{wants_of};
 ghost use Rattle.reports.specs.CountLines.{count_lines};
@@ -121,8 +121,8 @@ struct Made {
 /// What is wanted of a core that takes memory to make.
 fn made_of(core: &Core, wanted: Wanted<'_>, alloc: Global) -> Result<Made, AllocError>
     ensures counts { IfOk result (λ made. made.counts ≡ counts_in wanted.entry.counts core.now) }
-    ensures tables { IfOk result (λ made. AreTables wanted.entry.tables made.tables.items) }
-    ensures ends { IfOk result (λ made. AreTables (is_some wanted.entry.ends) made.ends.items) }
+    ensures tables { IfOk result (λ made. AreTables wanted.entry.tables core.now made.tables.items) }
+    ensures ends { IfOk result (λ made. AreEndReasons (is_some wanted.entry.ends) made.ends.items) }
 {
     let counts = counts_in(core, wanted.counts, alloc)?;
     let tables = table_text(core, wanted.tables, alloc)?;
@@ -146,8 +146,8 @@ fn write_made<W: Write>(
     alloc: Global,
 ) -> Result<u8, Refused>
     requires counts { made.now.counts ≡ counts_in wanted.counts core.now }
-    requires tables { AreTables wanted.tables made.now.tables.items }
-    requires ends { AreTables (is_some wanted.ends) made.now.ends.items }
+    requires tables { AreTables wanted.tables core.now made.now.tables.items }
+    requires ends { AreEndReasons (is_some wanted.ends) made.now.ends.items }
     ensures refused { IfErr result (λ reason. (reason ≡ Memory) ⊎ (reason ≡ Output)) }
     ensures reported { IfOk result
         (IsReported core.now idle.now (wants_of wanted.entry) (marks_of labels.now)
@@ -279,7 +279,7 @@ fn write_looks<W: Write>(
 
 /// The text of the tables where they are wanted, else none.
 fn table_text(core: &Core, wanted: bool, alloc: Global) -> Result<Vec<u8>, AllocError>
-    ensures tables { IfOk result (λ text. AreTables wanted text.items) }
+    ensures tables { IfOk result (λ text. AreTables wanted core.now text.items) }
 {
     let mut text = Vec::new(alloc);
     if !wanted {
@@ -293,7 +293,7 @@ fn table_text(core: &Core, wanted: bool, alloc: Global) -> Result<Vec<u8>, Alloc
 
 /// Why the harts stand where they do, where it is wanted, else nothing.
 fn ends_text(core: &Core, wanted: Option<RunEnd>, alloc: Global) -> Result<Vec<u8>, AllocError>
-    ensures { IfOk result (λ text. AreTables (is_some wanted) text.items) }
+    ensures { IfOk result (λ text. AreEndReasons (is_some wanted) text.items) }
 {
     let mut text = Vec::new(alloc);
     let Some(end) = wanted else {
