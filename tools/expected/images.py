@@ -71,6 +71,8 @@ PROGRAMS = {
     "skip_a_product": [0x00300293, 0x00000463, 0x025283B3, 0x00900413, 0x00100073],
     # addi x0,x0,0; addi x5,x0,1; addi x7,x0,2; ebreak
     "two_numbers": [NOP, 0x00100293, 0x00200393, 0x00100073],
+    # add x5,x10,x11; ebreak: the hart's number and how many there are
+    "number_and_count": [0x00B502B3, 0x00100073],
     # jal x5 to pc + 2
     "jump_by_two": [0x002002EF],
     # eight times bne x0,x0 to pc + 8; addi x5,x0,3; beq x0,x0 to pc + 8; addi x5,x0,9; ebreak
