@@ -2,7 +2,7 @@
 
 ghost use Rattle.std.specs.Prelude.{◌≡◌, ◌<◌, IfSome};
 ghost use Rattle.condensed_machine.specs.Decoded.{Knows};
-ghost use Rattle.condensed_machine.specs.Machine.{Grows};
+ghost use Rattle.condensed_machine.specs.declared.state.State.{State};
 
 use crate::rows::holds;
 use condensed_machine::{CondensedMachine, State};
@@ -63,7 +63,8 @@ struct Seen {
 fn step_of(machine: &mut CondensedMachine, state: State, hart: u8) -> Option<Step<State, u16>>
     requires hart { hart < machine.old.program.harts }
     requires known { Knows machine.old state }
-    ensures grows { Grows machine.old machine.new }
+    ensures program { machine.new.program ≡ machine.old.program }
+    ensures knew { (s : State) → Knows machine.old s → Knows machine.new s }
     ensures knows { IfSome result (λ step. Knows machine.new step.state) }
 {
     match machine.step(state, hart) {
@@ -121,9 +122,33 @@ fn a_step_is_followed_by_local_ones(rt: HostRuntime) {
     }
 }
 
-/// Whether a step that is asked for again is the one that was made; and whether that of the other hart, from the same
-/// numbers, is one of that hart, from there and from behind the first.
-fn is_made_once(alloc: Global) -> Option<(bool, bool)> {
+/// Whether a step that is asked for again is the one that was made.
+fn is_made_once(machine: &mut CondensedMachine, state: State) -> Option<bool>
+    requires hart { 0 < machine.old.program.harts }
+    requires known { Knows machine.old state }
+    ensures program { machine.new.program ≡ machine.old.program }
+    ensures knew { (s : State) → Knows machine.old s → Knows machine.new s }
+{
+    let first = step_of(machine, state, 0)?;
+    let again = step_of(machine, state, 0)?;
+    Some(first.state == again.state && first.way == again.way)
+}
+
+/// Whether the step of the other hart, from the same numbers, is one of that hart, and both steps come to the same in
+/// both orders.
+fn is_its_own(machine: &mut CondensedMachine, state: State) -> Option<bool>
+    requires harts { 1 < machine.old.program.harts }
+    requires known { Knows machine.old state }
+{
+    let first = step_of(machine, state, 0)?;
+    let other = step_of(machine, state, 1)?;
+    let zero_then_one = step_of(machine, first.state, 1)?;
+    let one_then_zero = step_of(machine, other.state, 0)?;
+    Some(other.state != first.state && zero_then_one.state == one_then_zero.state)
+}
+
+/// What these two say of the counter's first state.
+fn made_once(alloc: Global) -> Option<(bool, bool)> {
     let file = file_of(&COUNTER, 0, alloc).ok()?;
     let image = image_of(file.as_slice(), 65536, alloc)?;
     let Ok(mut machine) = CondensedMachine::new(
@@ -138,23 +163,26 @@ fn is_made_once(alloc: Global) -> Option<(bool, bool)> {
     let Ok(begun) = machine.begin() else {
         return None;
     };
-    let first = step_of(&mut machine, begun.state, 0)?;
-    let again = step_of(&mut machine, begun.state, 0)?;
-    let other = step_of(&mut machine, begun.state, 1)?;
-    let zero_then_one = step_of(&mut machine, first.state, 1)?;
-    let one_then_zero = step_of(&mut machine, other.state, 0)?;
-    let is_same = first.state == again.state && first.way == again.way;
-    let is_its_own = other.state != first.state && zero_then_one.state == one_then_zero.state;
-    Some((is_same, is_its_own))
+    looked_at(&mut machine, begun.state)
+}
+
+/// Both of them, of one state.
+fn looked_at(machine: &mut CondensedMachine, state: State) -> Option<(bool, bool)>
+    requires harts { 1 < machine.old.program.harts }
+    requires known { Knows machine.old state }
+{
+    let is_same = is_made_once(machine, state)?;
+    let is_own = is_its_own(machine, state)?;
+    Some((is_same, is_own))
 }
 
 #[test]
 fn a_step_is_made_once_for_each_hart(rt: HostRuntime) {
-    match is_made_once(rt.alloc()) {
+    match made_once(rt.alloc()) {
         None => holds(&rt, "memory", false),
-        Some((is_same, is_its_own)) => {
+        Some((is_same, is_own)) => {
             holds(&rt, "same", is_same);
-            holds(&rt, "own", is_its_own);
+            holds(&rt, "own", is_own);
         }
     }
 }
