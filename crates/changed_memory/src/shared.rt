@@ -1,9 +1,10 @@
-ghost use Rattle.std.specs.Prelude.{◌≡◌, ℕ, ◌<◌, ◌==◌, if◌then◌else◌, None, [], IfOk, OnOk, is_some};
+ghost use Rattle.std.specs.Prelude.{◌≡◌, ℕ, ◌<◌, ◌==◌, if◌then◌else◌, true, None, [], IfOk, OnOk, is_some};
 ghost use Rattle.numbers.specs.Sizes.{most_harts};
 ghost use Rattle.elf_image.specs.Image.{ProgramImage};
 ghost use Rattle.shared_memory.specs.Contents.{IsStart};
 ghost use Rattle.smt_model.specs.Bytes.{number_at};
 ghost use Rattle.smt_model.specs.Faults.{read_fault};
+ghost use Rattle.smt_model.specs.Reservations.{reservation_after};
 ghost use Rattle.rv_execute.specs.Access.{IsSize};
 ghost use Rattle.changed_memory.specs.Canonical.{IsCanonical};
 ghost use Rattle.changed_memory.specs.Shared.{byte_at, reserved_at};
@@ -12,7 +13,10 @@ ghost use Rattle.changed_memory.specs.SameLaws.{same_is_equivalence, same_is_par
 
 use crate::change::Change;
 use crate::changes::change_at;
+use crate::reserving::reserve;
+use events::Effect;
 use numbers::sizes::HART_ROOM;
+use rv_instr::Op;
 use shared_memory::{Memory, Reservations, held_by};
 use std::alloc::{AllocError, Global};
 use std::hash::{Hash, Hasher};
@@ -84,6 +88,16 @@ impl SharedState {
         ensures { result ≡ is_some (reserved_at self.now hart) }
     {
         held_by(&self.reserved, hart).is_some()
+    }
+
+    /// Whether a hart has a reservation behind an instruction of its own.
+    pub fn has_reservation_behind(&self, hart: u8, op: Op, addr: u32, effect: Effect) -> bool
+        requires { hart < most_harts }
+        ensures { result ≡ is_some (reservation_after op addr effect true (reserved_at self.now hart)) }
+    {
+        let mut reserved = self.reserved;
+        reserve(&mut reserved, hart, op, addr, effect);
+        held_by(&reserved, hart).is_some()
     }
 
     /// Ends a hart's reservation.

@@ -94,7 +94,7 @@ same_harts m n grows = ap (λ (p : Program). p.harts) (sym grows.program)
 pub state_same : (m n : Machine) (s : State) → Grows m n → Knows m s → state_of n s ≡ state_of m s
 state_same m n s grows knows = ap₂ full grows.program (still_decoded m n s grows knows)
 
-still_makes : (m n : Machine) (s : State) (h : ℕ) (step : Step State ℕ) (setup : Setup) → Grows m n → Knows m s
+still_makes : (m n : Machine) (s : State) (h : ℕ) (step : Step State Way) (setup : Setup) → Grows m n → Knows m s
     → Knows m step.state → MakesStep setup m s h step → MakesStep setup n s h step
 still_makes m n s h step setup grows knows next makes =
     let here = state_same m n s grows knows in

@@ -9,6 +9,7 @@ pub mod Executing
 pub mod Tables
 pub mod Moves
 pub mod Steps
+pub mod Losing
 pub mod Beginning
 pub mod Distinct
 pub mod Learning

@@ -42,13 +42,14 @@ pub record IsSound (p : Program) : Type 0 where
   pub writable : code_writable p.image ≡ true → p.targets.anywhere ≡ true
   pub tables : IsTables p.image (tables_of p)
 
--- The program, and the harts and shared parts found so far, and the numbers of the harts behind the first ones of a
--- state. The number of one is its place.
+-- The program, and the harts and shared parts found so far, the numbers of the harts behind the first ones of a state,
+-- and rows of how many local steps each hart made behind a step of another. The number of one is its place.
 pub record Machine : Type 0 where
   pub program : Program
   pub hart_states : List Hart
   pub far_harts : List (List ℕ)
   pub shared_states : List Shared
+  pub rows : List (List ℕ)
 
 -- x0 stands as 0 in each hart.
 abbrev pub HaveZero : List Hart → Type 0
@@ -71,6 +72,7 @@ pub record Grows (m n : Machine) : Type 0 where
   pub hart_states : Keeps m.hart_states n.hart_states
   pub far_harts : Keeps m.far_harts n.far_harts
   pub shared_states : Keeps m.shared_states n.shared_states
+  pub rows : Keeps m.rows n.rows
 
 -- It is so of each setup with the program's image and harts.
 abbrev pub InEachSetup : Program → (Setup → Type 0) → Type 0

@@ -4,17 +4,17 @@ use Rattle.std.specs.Prelude.{◌≡◌, ◌&&◌, Bool, true, nat_eq, List, Som
 use Rattle.std.specs.Map.{lookup}
 use Rattle.sc_machine.specs.declared.hart.Hart.{Hart}
 use Rattle.changed_memory.specs.Shared.{Shared}
-use Rattle.outcome_laws.specs.Local.{fits}
+use Rattle.outcome_laws.specs.{Local.fits, Paths.stepped}
 use Rattle.condensed_machine.specs.Machine.{Machine, Program, HasCode, tables_of}
 use Rattle.condensed_machine.specs.Executing.{InEachState, IsExecuted, IsBehind, ComesToRest}
-use Rattle.condensed_machine.specs.{Resting.keeps_reservation, Tables.HasNumber, Tables.IsSharedAfter}
+use Rattle.condensed_machine.specs.{Resting.keeps_reservation, Settling.IsFree, Tables.HasNumber, Tables.IsSharedAfter}
 use Rattle.condensed_machine.specs.declared.executed.Executed.{Executed}
 use Rattle.condensed_machine.specs.declared.moves.MoveFrom.{MoveFrom}
 use Rattle.condensed_machine.specs.declared.moves.MoveTo.{MoveTo}
 
 -- From the hart and the shared parts with these numbers the hart's next instruction leads, and so many local steps
 -- behind it, to those with the others, in whatever state they stand so; and it fits the tables. x0 is 0 there, and code
--- that may not be written is what the image has.
+-- that may not be written is what the image has. Whether the hart is free behind its instruction is known.
 pub record IsMove (p : Program) (harts : List Hart) (shared : List Shared) (from : MoveFrom)
     (to : MoveTo) : Type 0 where
   pub here : Hart
@@ -29,7 +29,9 @@ pub record IsMove (p : Program) (harts : List Hart) (shared : List Shared) (from
   pub executed : InEachState p from.hart here common (λ setup s. IsExecuted setup s from.hart done)
   pub is_behind : InEachState p from.hart here common (λ setup s. IsBehind setup s from.hart behind)
   pub fitting : InEachState p from.hart here common (λ setup s. fits setup (tables_of p) from.hart s ≡ true)
-  pub rests : ComesToRest p behind to.way moved
+  pub free : Bool
+  pub is_free : InEachState p from.hart here common (λ setup s. IsFree free from.hart (stepped setup from.hart s))
+  pub rests : ComesToRest p free behind to.steps moved
   pub has : HasNumber harts moved to.number
   pub after : IsSharedAfter p.image from.hart done (keeps_reservation p.live moved) common shared to.shared
 

@@ -1,9 +1,9 @@
 -- What a hart that follows its local steps comes to, in the words of the definitions' machine.
-use Rattle.std.specs.Prelude.{◌≡◌, ℕ, ◌<◌, ◌≤◌, ◌==◌, ◌&&◌, not, Bool, true, false, replicate}
+use Rattle.std.specs.Prelude.{◌≡◌, ℕ, ◌<◌, ◌≤◌, ◌==◌, ◌&&◌, ◌||◌, not, Bool, true, false, None, replicate}
 use Rattle.elf_image.specs.Image.{ProgramImage, code_writable}
-use Rattle.smt_model.specs.{Setup.Setup, Plain.Plain, Plain.op_at_pc, Plain.computes}
+use Rattle.smt_model.specs.{Setup.Setup, Words.Op, Kinds.kind_of, Plain.Plain, Plain.op_at_pc, Plain.computes}
 use Rattle.sc_machine.specs.{Harts.HartAgrees, declared.hart.Hart.Hart}
-use Rattle.outcome_laws.specs.{Paths.can_step, Paths.HasItsCode, Tables.Tables}
+use Rattle.outcome_laws.specs.{Paths.can_step, Paths.HasItsCode, Tables.Tables, Tables.is_conditional}
 use Rattle.outcome_laws.specs.{Local.is_silent, Local.fits, Search.IsLocalPath}
 use Rattle.live_registers.specs.{Targets.allows, declared.targets.Targets.Targets}
 
@@ -37,32 +37,44 @@ pub record HasTargets (targets : Targets) (tables : Tables) : Type 0 where
   pub targets_are : tables.targets ≡ allows targets
   pub ahead : (h pc what : ℕ) (writes : Bool) → tables.ahead h pc what writes ≡ true
 
--- Whichever hart x is, in whatever state, so many steps make y of it that are local in any tables with these targets.
-abbrev pub LeadsLocally : ProgramImage → Targets → Hart → ℕ → Hart → Type 0
-LeadsLocally image targets x steps y = (setup : Setup) (tables : Tables) (h : ℕ) (s : Plain)
+-- Where hart h is told to be free, it has no reservation in s. [This project's choice: reservations are given by LR alone,
+-- so an SC of such a hart fails, whatever the others do before it]
+abbrev pub IsFree : Bool → ℕ → Plain → Type 0
+IsFree free h s = free ≡ true → s.reserved h ≡ None
+
+-- It is SC of a hart that is told to be free.
+abbrev pub fails : Bool → Op → Bool
+fails free op = free && is_conditional (kind_of op)
+
+-- Whichever hart x is, in whatever state, so many steps make y of it that are local in any tables with these targets; of
+-- a hart that is told to be free, where it has no reservation.
+abbrev pub LeadsLocally : ProgramImage → Targets → Bool → Hart → ℕ → Hart → Type 0
+LeadsLocally image targets free x steps y = (setup : Setup) (tables : Tables) (h : ℕ) (s : Plain)
     → HasTargets targets tables → setup.image ≡ image → h < setup.harts → HasItsCode setup s → HartAgrees s h x
-    → GoesOn setup tables h steps s y
+    → IsFree free h s → GoesOn setup tables h steps s y
 
 -- The next step of hart h is followed: the code may not be written, and the step ends or stops its hart, or neither
--- touches memory nor puts a byte out; and it fits. Any such step is local.
-abbrev pub is_followed : Setup → Tables → ℕ → Plain → Bool
-is_followed setup tables h s =
+-- touches memory nor puts a byte out, or is SC of a hart that is told to be free; and it fits. Any such step is local.
+abbrev pub is_followed : Setup → Tables → Bool → ℕ → Plain → Bool
+is_followed setup tables free h s =
     not (code_writable setup.image)
-    && (is_silent (op_at_pc setup s h) (computes setup s h) && fits setup tables h s)
+    && ((is_silent (op_at_pc setup s h) (computes setup s h) || fails free (op_at_pc setup s h))
+    && fits setup tables h s)
 
 -- Whichever hart x is, in whatever state, it doesn't go or its next step isn't one that is followed.
-abbrev pub StandsStill : ProgramImage → Targets → Hart → Type 0
-StandsStill image targets x = (setup : Setup) (tables : Tables) (h : ℕ) (s : Plain)
+abbrev pub StandsStill : ProgramImage → Targets → Bool → Hart → Type 0
+StandsStill image targets free x = (setup : Setup) (tables : Tables) (h : ℕ) (s : Plain)
     → HasTargets targets tables → setup.image ≡ image → HasItsCode setup s → HartAgrees s h x
-    → (can_step setup h s && is_followed setup tables h s) ≡ false
+    → (can_step setup h s && is_followed setup tables free h s) ≡ false
 
 -- One local step makes y of x, where one was made; else there is none, and y is x.
-abbrev pub StepsLocally : ProgramImage → Targets → Hart → Bool → Hart → Type 0
-StepsLocally image targets x true y = LeadsLocally image targets x 1 y
-StepsLocally image targets x false y = StandsStill image targets x × (y ≡ x)
+abbrev pub StepsLocally : ProgramImage → Targets → Bool → Hart → Bool → Hart → Type 0
+StepsLocally image targets free x true y = LeadsLocally image targets free x 1 y
+StepsLocally image targets free x false y = StandsStill image targets free x × (y ≡ x)
 
 -- So many local steps make y of x, and no more than may be made; where more may, there is no other.
-pub record SettlesAs (image : ProgramImage) (targets : Targets) (x : Hart) (steps : ℕ) (y : Hart) : Type 0 where
-  pub leads : LeadsLocally image targets x steps y
+pub record SettlesAs (image : ProgramImage) (targets : Targets) (free : Bool) (x : Hart) (steps : ℕ) (y : Hart)
+    : Type 0 where
+  pub leads : LeadsLocally image targets free x steps y
   pub few : steps ≤ most_local_steps
-  pub settled : steps < most_local_steps → StandsStill image targets y
+  pub settled : steps < most_local_steps → StandsStill image targets free y

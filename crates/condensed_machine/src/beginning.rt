@@ -60,7 +60,7 @@ fn first_harts(program: &Program, table: &mut IndexSet<Hart>) -> Result<First, A
     };
     for hart in 0..program.harts() {
         let mut state = program.first_hart(hart);
-        first.ways[usize::from(hart)] = program.come_to_rest(&mut state);
+        first.ways[usize::from(hart)] = program.come_to_rest(true, &mut state);
         first.numbers[usize::from(hart)] = number_hart(table, state)?;
     }
     Ok(first)

@@ -1,7 +1,7 @@
-ghost use Rattle.std.specs.Prelude.{◌≡◌, ◌↔◌, ◌<◌, ◌≤◌, ℕ, Err, false, IfOk, None, IsTrue, length, slice_index};
+ghost use Rattle.std.specs.Prelude.{◌≡◌, ◌↔◌, ◌<◌, ◌≤◌, ℕ, Err, false, IfErr, IfOk, None, IsTrue, length, slice_index};
 ghost use Rattle.numbers.specs.Sizes.{most_harts};
 ghost use Rattle.sc_machine.specs.Steps.{are_harts};
-ghost use Rattle.sc_machine.specs.declared.refused.PlainRefused.TheVariants.{Harts};
+ghost use Rattle.sc_machine.specs.declared.refused.PlainRefused.TheVariants.{Harts, Memory};
 ghost use Rattle.rv_execute.specs.Access.{IsSize};
 ghost use Rattle.smt_model.specs.Bytes.{number_at};
 ghost use Rattle.smt_model.specs.Faults.{read_fault};
@@ -9,11 +9,13 @@ ghost use Rattle.condensed_machine.specs.Decoded.{Knows, decoded, hart_at, hart_
 ghost use Rattle.condensed_machine.specs.Distinct.{AreDistinct};
 ghost use Rattle.condensed_machine.specs.Machine.{IsNew};
 
+use crate::losing::Rest;
 use crate::moves::{MoveFrom, MoveTo};
 use crate::numbering::number_in;
 use crate::program::Program;
 use crate::resting::REGISTERS;
 use crate::state::{FAR_HARTS, State};
+use crate::way::Rows;
 use changed_memory::SharedState;
 use changed_memory::laws::equal_memories_are_one_list;
 use elf_image::Image;
@@ -36,8 +38,12 @@ pub struct CondensedMachine {
     /// The numbers of the harts that stand in a state together.
     pub(crate) far_harts: IndexSet<[u32; FAR_HARTS]>,
     pub(crate) shared_states: IndexSet<SharedState>,
+    /// How many local steps others made behind a step.
+    pub(crate) rows: Rows,
     /// What each step came to that was made.
     pub(crate) moves: IndexMap<MoveFrom, MoveTo>,
+    /// What each hart came to that has lost its reservation, by its number.
+    pub(crate) rests: IndexMap<u32, Rest>,
     /// Where the shared parts behind a step are made, before they are looked up.
     pub(crate) scratch: SharedState,
     pub(crate) alloc: Global,
@@ -74,25 +80,39 @@ impl CondensedMachine {
             return Err(PlainRefused::Harts);
         }
         match Program::new(image, harts, watched, targets, alloc) {
-            Ok(program) => Ok(Self::of(program, alloc)),
+            Ok(program) => Self::of(program, alloc),
             Err(_) => Err(PlainRefused::Memory),
         }
     }
 
     /// The machine of a program that knows no state.
-    fn of(program: Program, alloc: Global) -> CondensedMachine
-        ensures { result.program ≡ program }
+    fn of(program: Program, alloc: Global) -> Result<CondensedMachine, PlainRefused>
+        ensures ok { IfOk result (λ machine. machine.program ≡ program) }
+        ensures refused { IfErr result (λ why. why ≡ Memory) }
     {
         let _harts = program.harts();
-        CondensedMachine {
+        let Ok(rows) = Rows::new(alloc) else {
+            return Err(PlainRefused::Memory);
+        };
+        Ok(CondensedMachine {
             program,
+            rows,
             hart_states: IndexSet::new(alloc),
             far_harts: IndexSet::new(alloc),
             shared_states: IndexSet::new(alloc),
             moves: IndexMap::new(alloc),
+            rests: IndexMap::new(alloc),
             scratch: SharedState::start(alloc),
             alloc,
-        }
+        })
+    }
+
+    /// The rows of local steps by which its steps tell what others did behind them.
+    pub fn into_rows(self) -> Rows
+        ensures { result ≡ self.rows }
+    {
+        let CondensedMachine { rows, .. } = self;
+        rows
     }
 
     /// How many harts there are, 1 to `MOST_HARTS`. No two states that the machine knows are alike.

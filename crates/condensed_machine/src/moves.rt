@@ -19,12 +19,14 @@ pub(crate) struct MoveFrom {
     pub(crate) shared: u32,
 }
 
-/// What a step comes to, with the local ones behind it: the numbers then, and how many local steps there were.
+/// What a step comes to, with the local ones of its hart behind it: the numbers then, and how many local steps there
+/// were; and whether it has ended a reservation of another hart.
 #[derive(Clone, Copy, Drop)]
 pub(crate) struct MoveTo {
     pub(crate) number: u32,
     pub(crate) shared: u32,
-    pub(crate) way: u16,
+    pub(crate) steps: u16,
+    pub(crate) takes: bool,
 }
 
 impl CondensedMachine {
@@ -79,7 +81,13 @@ impl CondensedMachine {
         if let Some(jump) = self.program.lacking(pc, executed) {
             return Err(Unmade::Lacks(jump));
         }
-        let way = self.program.come_to_rest(&mut own);
+        let is_free = !before.has_reservation_behind(
+            from.hart,
+            executed.op,
+            executed.addr,
+            executed.effect,
+        );
+        let steps = self.program.come_to_rest(is_free, &mut own);
         let is_kept = self.program.keeps_reservation(&own);
         let number = number_hart(&mut self.hart_states, own)?;
         let shared = number_shared(
@@ -92,10 +100,24 @@ impl CondensedMachine {
             is_kept,
             self.alloc,
         )?;
+        let takes = self.takes(from.hart, from.shared, shared);
         Ok(MoveTo {
             number,
             shared,
-            way,
+            steps,
+            takes,
+        })
+    }
+
+    /// Whether a hart but the one that stepped had a reservation in the shared parts before and has none behind.
+    fn takes(&self, hart: u8, before: u32, behind: u32) -> bool
+        requires before { before < length self.now.shared_states }
+        requires behind { behind < length self.now.shared_states }
+    {
+        let before = self.numbered_shared(before);
+        let behind = self.numbered_shared(behind);
+        (0..self.program.harts()).any(|other| {
+            other != hart && before.has_reservation(other) && !behind.has_reservation(other)
         })
     }
 }

@@ -158,12 +158,19 @@ impl Program {
         lacking(&self.targets, executed.op, pc, executed.effect.next)
     }
 
-    /// Follows a hart's local steps, and puts 0 into the registers that nobody reads again. Answers how many
-    /// steps there were.
-    pub(crate) fn come_to_rest(&self, state: &mut Hart) -> u16
-        ensures { ComesToRest self.now state.old result state.new }
+    /// Follows a hart's local steps, and puts 0 into the registers that nobody reads again. A hart that is free is known
+    /// to have no reservation. Answers how many steps there were.
+    pub(crate) fn come_to_rest(&self, is_free: bool, state: &mut Hart) -> u16
+        ensures { ComesToRest self.now is_free state.old result state.new }
     {
-        let steps = settle(&self.start, &self.code, &self.targets, self.writable, state);
+        let steps = settle(
+            &self.start,
+            &self.code,
+            &self.targets,
+            self.writable,
+            is_free,
+            state,
+        );
         rest(&self.live, &self.watched, state);
         steps
     }

@@ -1,5 +1,6 @@
 use crate::machine::CondensedMachine;
 use crate::state::State;
+use crate::way::Way;
 use live_registers::Jump;
 use searches::{Machine, Step, Unmade};
 
@@ -14,8 +15,8 @@ impl Machine for CondensedMachine {
 
     type State = State;
 
-    /// How many local steps of the hart followed.
-    type Way = u16;
+    /// The local steps that followed.
+    type Way = Way;
 
     /// The jump by a register that the table of targets lacks.
     type Lack = Jump;
@@ -34,7 +35,7 @@ impl Machine for CondensedMachine {
         self.program.harts()
     }
 
-    fn step(&mut self, state: State, hart: u8) -> Result<Option<Step<State, u16>>, Unmade<Jump>> {
+    fn step(&mut self, state: State, hart: u8) -> Result<Option<Step<State, Way>>, Unmade<Jump>> {
         self.make_step(state, hart)
     }
 

@@ -11,7 +11,7 @@ ghost use Rattle.watched_outcomes.specs.Watching.{AreThere};
 
 use crate::listed::{Listed, put};
 use arrayvec::ArrayVec;
-use condensed_machine::{CondensedMachine, State};
+use condensed_machine::{CondensedMachine, State, Way};
 use numbers::sizes::HART_ROOM;
 use searches::Search;
 use smt_model::Status;
@@ -22,7 +22,7 @@ use watched_outcomes::{Outcome, Watch, WatchedBytes};
 /// memory.
 pub(crate) fn list_outcomes(
     machine: &CondensedMachine,
-    search: &Search<State, u16>,
+    search: &Search<State, Way>,
     watch: &Watch,
     alloc: Global,
 ) -> Result<Vec<Listed>, AllocError>

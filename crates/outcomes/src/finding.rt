@@ -23,7 +23,7 @@ use crate::refused::OutcomesRefused;
 use crate::unfound::Unfound;
 use crate::until::Until;
 use crate::unwritten::list_unwritten;
-use condensed_machine::{Begun, CondensedMachine, State};
+use condensed_machine::{Begun, CondensedMachine, State, Way};
 use elf_image::Image;
 use live_registers::Targets;
 use sc_machine::PlainRefused;
@@ -196,7 +196,7 @@ fn search_all<O: Onlooker, U: Until>(
         Ok(explored) => explored,
         Err(why) => return Err(why),
     };
-    let Ok(found) = outcomes_of(&machine, begun, explored, watch, budget, until, alloc) else {
+    let Ok(found) = outcomes_of(machine, begun, explored, watch, budget, until, alloc) else {
         return Err(Unfound::Refused(OutcomesRefused::Memory));
     };
     Ok(found)
@@ -230,7 +230,7 @@ fn search_from<O: Onlooker, U: Until>(
     onlooker: &O,
     until: &U,
     alloc: Global,
-) -> Result<Explored<State, u16>, Unfound>
+) -> Result<Explored<State, Way>, Unfound>
     requires known { Knows machine.old begun.state }
     requires begun { HasBegun machine.old begun }
     requires registers { AreThere machine.old.program.harts watch.now }
@@ -260,9 +260,9 @@ fn search_from<O: Onlooker, U: Until>(
 /// The outcomes of a search's ends; and, where it was whole, whether each state can go on to one, and what is
 /// watched for nothing.
 fn outcomes_of<U: Until>(
-    machine: &CondensedMachine,
+    machine: CondensedMachine,
     begun: Begun,
-    explored: Explored<State, u16>,
+    explored: Explored<State, Way>,
     watch: &Watch,
     budget: u32,
     until: &U,
@@ -285,19 +285,21 @@ fn outcomes_of<U: Until>(
     ensures refused { IfErr result (λ why. why ≡ Memory) }
 {
     let Explored { search, extent } = explored;
-    let Ok(listed) = list_outcomes(machine, &search, watch, alloc) else {
+    let Ok(listed) = list_outcomes(&machine, &search, watch, alloc) else {
         return Err(OutcomesRefused::Memory);
     };
     let Ok(stuck) = stuck_of(&search, extent, alloc) else {
         return Err(OutcomesRefused::Memory);
     };
-    let Ok(unwritten) = unwritten_of(machine, &search, extent, watch, alloc) else {
+    let Ok(unwritten) = unwritten_of(&machine, &search, extent, watch, alloc) else {
         return Err(OutcomesRefused::Memory);
     };
+    let harts = machine.harts();
     let ways = begun.ways;
     Ok(Outcomes {
-        harts: machine.harts(),
+        harts,
         ways,
+        rows: machine.into_rows(),
         search,
         extent,
         listed,
@@ -308,7 +310,7 @@ fn outcomes_of<U: Until>(
 
 /// The place of a state that has no way to an end. A part of the states tells none. Errors: want of memory.
 fn stuck_of(
-    search: &Search<State, u16>,
+    search: &Search<State, Way>,
     extent: Extent,
     alloc: Global,
 ) -> Result<Option<u32>, AllocError>
@@ -324,7 +326,7 @@ fn stuck_of(
 /// What is watched for nothing. A part of the states doesn't tell it. Errors: want of memory.
 fn unwritten_of(
     machine: &CondensedMachine,
-    search: &Search<State, u16>,
+    search: &Search<State, Way>,
     extent: Extent,
     watch: &Watch,
     alloc: Global,

@@ -2,10 +2,11 @@ ghost use Rattle.std.specs.Prelude.{◌≡◌, ◌<◌, ◌≤◌, ◌++◌, IfO
 ghost use Rattle.std.specs.Prelude.{false, slice_index_or};
 ghost use Rattle.numbers.specs.Sizes.{most_harts};
 ghost use Rattle.searches.specs.declared.extent.Extent.TheVariants.{Whole};
-ghost use Rattle.outcomes.specs.Told.{ending_listed, order_listed, order_at, moved};
+ghost use Rattle.condensed_machine.specs.Steps.{turns};
+ghost use Rattle.outcomes.specs.Told.{ending_listed, order_listed, moved};
 
 use crate::listed::Listed;
-use condensed_machine::State;
+use condensed_machine::{Rows, State, Way};
 use numbers::sizes::HART_ROOM;
 use searches::{Extent, Move, Search};
 use std::alloc::{AllocError, Global};
@@ -19,7 +20,9 @@ pub struct Outcomes {
     pub(crate) harts: u8,
     /// By how many local steps each hart in turn has come to the first state.
     pub(crate) ways: [u16; HART_ROOM],
-    pub(crate) search: Search<State, u16>,
+    /// By how many local steps the others have gone on behind a step.
+    pub(crate) rows: Rows,
+    pub(crate) search: Search<State, Way>,
     pub(crate) extent: Extent,
     pub(crate) listed: Vec<Listed>,
     /// The place of a state that has no way to an end, where the search was whole.
@@ -78,7 +81,7 @@ impl Outcomes {
         ensures { IfOk result (λ order. order_listed self.now.listed index ≡ Some order.items) }
     {
         let place = self.listed[index].place;
-        let order = order_to(self.harts, &self.ways, &self.search, place, alloc)?;
+        let order = self.order_to(place, alloc)?;
         Ok(order)
     }
 
@@ -90,7 +93,7 @@ impl Outcomes {
     {
         match self.stuck {
             Some(place) => {
-                let order = order_to(self.harts, &self.ways, &self.search, place, alloc)?;
+                let order = self.order_to(place, alloc)?;
                 Ok(Some(order))
             }
             None => Ok(None),
@@ -108,37 +111,57 @@ impl Outcomes {
             None => false,
         }
     }
+
+    /// The order of harts by which the state at a place was found. Errors: want of memory.
+    fn order_to(&self, place: u32, alloc: Global) -> Result<Vec<u8>, AllocError> {
+        let moves = self.search.moves_to(place, alloc)?;
+        order_of(self.harts, &self.ways, &self.rows, moves.as_slice(), alloc)
+    }
 }
 
-/// The order of harts by which the state at a place was found: the local steps of each hart in turn, and then
-/// the moves. Errors: want of memory.
-fn order_to(
+/// The order of harts that moves come to: the local steps of each hart in turn, and then the moves. Errors: want of
+/// memory.
+fn order_of(
     harts: u8,
     ways: &[u16; HART_ROOM],
-    search: &Search<State, u16>,
-    place: u32,
+    rows: &Rows,
+    moves: &[Move<Way>],
     alloc: Global,
 ) -> Result<Vec<u8>, AllocError>
-    requires harts { harts ≤ most_harts }
-    requires place { place < length search.now.states }
-    ensures { IfOk result (λ order. order.items ≡ order_at ways.now harts search.now.origins place) }
+    ensures { IfOk result (λ order. order.items ≡ turns ways.now harts ++ moved rows.now harts moves.now) }
 {
     let mut order = Vec::new(alloc);
-    for hart in 0..harts {
-        push_turns(&mut order, hart, ways[usize::from(hart)])?;
-    }
-    let moves = search.moves_to(place, alloc)?;
-    push_moves(&mut order, moves.as_slice())?;
+    push_row(&mut order, harts, ways)?;
+    push_moves(&mut order, harts, rows, moves)?;
     Ok(order)
 }
 
-/// Each move's hart, and that again for each local step behind it. Errors: want of memory.
-fn push_moves(order: &mut Vec<u8>, moves: &[Move<u16>]) -> Result<(), AllocError>
-    ensures { OnOk result (order.new.items ≡ order.old.items ++ moved moves.now) }
+/// Each move's hart, that again for each local step behind it, and then the local steps of the others. Errors: want of
+/// memory.
+fn push_moves(
+    order: &mut Vec<u8>,
+    harts: u8,
+    rows: &Rows,
+    moves: &[Move<Way>],
+) -> Result<(), AllocError>
+    ensures { OnOk result (order.new.items ≡ order.old.items ++ moved rows.now harts moves.now) }
 {
     for step in moves {
         order.push(step.hart)?;
-        push_turns(order, step.hart, step.way)?;
+        push_turns(order, step.hart, step.way.own)?;
+        push_row(order, harts, rows.row(step.way.others))?;
+    }
+    Ok(())
+}
+
+/// The turns of each hart in turn, as many as stand in a row, and none where nothing stands there. Errors: want of memory.
+fn push_row(order: &mut Vec<u8>, harts: u8, row: &[u16]) -> Result<(), AllocError>
+    ensures { OnOk result (order.new.items ≡ order.old.items ++ turns row.now harts) }
+{
+    for hart in 0..harts {
+        if let Some(turns) = row.get(usize::from(hart)) {
+            push_turns(order, hart, *turns)?;
+        }
     }
     Ok(())
 }

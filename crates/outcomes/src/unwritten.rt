@@ -5,7 +5,7 @@ ghost use Rattle.condensed_machine.specs.Decoded.{Knows};
 ghost use Rattle.condensed_machine.specs.declared.state.State.{State};
 ghost use Rattle.outcomes.specs.{Collected.is_unwritten, Collected.is_zero, Refusals.CanLoad, Refusals.AreWords};
 
-use condensed_machine::{CondensedMachine, State};
+use condensed_machine::{CondensedMachine, State, Way};
 use searches::Search;
 use std::alloc::{AllocError, Global};
 use watched_outcomes::{Watch, WatchedBytes};
@@ -13,7 +13,7 @@ use watched_outcomes::{Watch, WatchedBytes};
 /// Of each place in memory that is watched, whether 0 is there in all states of a search. Errors: want of memory.
 pub(crate) fn list_unwritten(
     machine: &CondensedMachine,
-    search: &Search<State, u16>,
+    search: &Search<State, Way>,
     watch: &Watch,
     alloc: Global,
 ) -> Result<Vec<bool>, AllocError>
@@ -32,7 +32,7 @@ pub(crate) fn list_unwritten(
 /// Whether 0 is at a place in all states of a search. It looks at no more of them than up to one where it isn't.
 fn is_unwritten(
     machine: &CondensedMachine,
-    search: &Search<State, u16>,
+    search: &Search<State, Way>,
     bytes: WatchedBytes,
 ) -> bool
     requires known { (s : State) → Contains search.now.states s → Knows machine.now s }
@@ -50,7 +50,7 @@ fn is_unwritten(
 /// Whether 0 is there in the state at this place of a search.
 fn is_zero_at(
     machine: &CondensedMachine,
-    search: &Search<State, u16>,
+    search: &Search<State, Way>,
     bytes: WatchedBytes,
     place: usize,
 ) -> bool
