@@ -4,7 +4,8 @@
         the number of states
 
 A hart's step is followed by its local ones: where the code may not be written, those that touch no memory and put
-nothing out, and those that end or stop the hart. Then a register counts as 0 that is neither watched nor may be read
+nothing out, those that end or stop the hart, and SC where the hart has no reservation at all. Behind it each other hart
+that has lost its reservation by the step makes its own, in turn. Then a register counts as 0 that is neither watched nor may be read
 yet, and the hart has no reservation that it can't use. Both are found by the code, with JALR going where it goes in some
 state that is visited; where the code may be written nothing is left out but of harts that don't go.
 
@@ -83,8 +84,10 @@ class Code:
 
 
 def is_local(code, machine, hart):
-    """The hart's step ends or stops it, or neither touches memory nor puts a byte out."""
+    """The hart's step ends or stops it, or neither touches memory nor puts a byte out, or is an SC of a hart without any reservation."""
     i = code.words.get(machine.pcs[hart], NO_WORD)
+    if i.kind == "sc" and machine.reserved[hart] is None:
+        return True
     tried = thawed(machine.image, frozen(machine))
     put = len(tried.output)
     tried.step(hart)
@@ -122,8 +125,12 @@ def visited(made, harts, columns, code):
         here = waiting.pop()
         for hart in thawed(made, here).going():
             machine = thawed(made, here)
+            reserved = list(machine.reserved)
             code.step(machine, hart)
             settle(code, machine, hart, kept)
+            for other in range(harts):
+                if other != hart and reserved[other] is not None and machine.reserved[other] is None:
+                    settle(code, machine, other, kept)
             there = state_of(machine)
             if there not in seen:
                 seen.add(there)
@@ -135,7 +142,7 @@ def states(made, harts, columns=()):
     """How many states are visited in the last pass, where this is watched."""
     anywhere = Code(made)
     count = visited(made, harts, columns, anywhere)
-    if anywhere.is_written or not anywhere.met:
+    if anywhere.is_written or all(i.name != "jalr" for i in anywhere.words.values()):
         return count
     known = Code(made, anywhere.met)
     count = visited(made, harts, columns, known)

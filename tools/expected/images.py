@@ -7,6 +7,7 @@ import os
 import struct
 
 import code_images
+import conditional_images
 import memory_images
 from image import BASE, R, W, X, build
 
@@ -274,7 +275,7 @@ MORE = {
 
 def main():
     os.makedirs(FOLDER, exist_ok=True)
-    programs = PROGRAMS | memory_images.PROGRAMS
+    programs = PROGRAMS | memory_images.PROGRAMS | conditional_images.PROGRAMS
     files = {name: build(words) for name, words in programs.items()} | MORE | code_images.IMAGES
     for name, data in files.items():
         with open(f"{FOLDER}/{name}.elf", "wb") as file:
