@@ -8,8 +8,8 @@ ghost use Rattle.condensed_machine.specs.Machine.{Grows, IsSound, MayLack};
 ghost use Rattle.condensed_machine.specs.Numbering.{HasMoved};
 ghost use Rattle.condensed_machine.specs.Steps.{Steps};
 
-use crate::machine::CondensedMachine;
 use crate::losing::Followed;
+use crate::machine::CondensedMachine;
 use crate::moves::{MoveFrom, MoveTo};
 use crate::numbering::moved;
 use crate::state::State;
