@@ -1,7 +1,7 @@
 -- SC of a hart that has no reservation fails, whatever the others do: as a step that is silent, it changes nothing but
 -- its own hart.
 use Rattle.std.proofs.Common.{◌≡◌, ℕ, Bool, true, false, Option, None, refl, ap, ◌∙◌, arith, inl, inr}
-use Rattle.std.specs.Prelude.{◌&&◌, ◌||◌, ◌==◌, not, if◌then◌else◌}
+use Rattle.std.specs.Prelude.{◌||◌, ◌==◌, not, if◌then◌else◌}
 use Rattle.std.proofs.lemmas.Bool.{cases_Bool, Decides.nat_tests}
 use Rattle.smt_model.specs.Words.{Op, Effect}
 use Rattle.smt_model.specs.{Setup.Setup, Exec.Computed, Nexts.is_last, Effects.effect_of, Effects.effect_by, Plain.Plain}
