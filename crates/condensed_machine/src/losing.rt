@@ -9,7 +9,6 @@ ghost use Rattle.condensed_machine.specs.Machine.{Grows};
 use crate::machine::CondensedMachine;
 use crate::state::State;
 use crate::tables::number_hart;
-use crate::way::NO_OTHERS;
 use numbers::sizes::HART_ROOM;
 use std::alloc::AllocError;
 
