@@ -13,7 +13,7 @@ use crate::losing::Followed;
 use crate::moves::{MoveFrom, MoveTo};
 use crate::numbering::moved;
 use crate::state::State;
-use crate::way::{NO_OTHERS, Way};
+use crate::way::Way;
 use live_registers::Jump;
 use searches::{Step, Unmade};
 use std::alloc::AllocError;
@@ -74,7 +74,7 @@ impl CondensedMachine {
         }
         Ok(Followed {
             state: next,
-            others: NO_OTHERS,
+            others: self.rows.no_others(),
         })
     }
 
