@@ -1,11 +1,11 @@
 -- Local steps one after another.
-use Rattle.std.proofs.Common.{◌≡◌, ℕ, zero, suc, ◌+◌, false, List, [], ◌∷◌, ◌++◌, replicate}
+use Rattle.std.proofs.Common.{◌≡◌, ℕ, zero, suc, ◌+◌, Bool, false, List, [], ◌∷◌, ◌++◌, replicate}
 use Rattle.std.proofs.Common.{refl, sym, ap, subst, ◌∙◌, add-one}
 use Rattle.std.specs.Prelude.{◌==◌, if◌then◌else◌}
 use Rattle.smt_model.specs.{Setup.Setup, Plain.Plain}
 use Rattle.outcome_laws.specs.{Paths.stepped, Tables.Tables, Search.IsLocalPath}
 use Rattle.sc_machine.specs.{Harts.HartAgrees, declared.hart.Hart.Hart}
-use Rattle.condensed_machine.specs.Settling.{HartsStay, OthersStay, GoesOn}
+use Rattle.condensed_machine.specs.Settling.{HartsStay, OthersStay, GoesOn, IsFree}
 
 pub none_stays : (h : ℕ) (s : Plain) → OthersStay h s s
 none_stays h s = record {
@@ -74,3 +74,8 @@ goes_further setup tables h k s y z first second = record {
   agrees = second.agrees;
   others = then_stay h s first.there second.there first.others second.others;
 }
+
+-- A hart that is free is so behind its local steps.
+pub still_free : (setup : Setup) (tables : Tables) (free : Bool) (h k : ℕ) (s : Plain) (y : Hart)
+    (goes : GoesOn setup tables h k s y) → IsFree free h s → IsFree free h goes.there
+still_free setup tables free h k s y goes is_free is = goes.others.reserved h ∙ is_free is

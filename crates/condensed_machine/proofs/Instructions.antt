@@ -13,10 +13,8 @@ use Rattle.smt_model.specs.Plain.{Plain, after, op_at_pc, computes, effect_at, i
 use Rattle.smt_model.specs.Plain.{output_after, register_after, word_at_pc}
 use Rattle.rv_instr.specs.Registers.{op_rd}
 use Rattle.rv_instr.proofs.DecodedLemmas.{op_of_word_in_range, op_rd_below}
-use Rattle.outcome_laws.specs.{Paths.can_step, Paths.stepped, Local.is_silent, Local.is_local, Local.lacks_reservation}
+use Rattle.outcome_laws.specs.{Paths.can_step, Paths.stepped, Local.is_silent, Local.is_local}
 use Rattle.outcome_laws.specs.{Local.fits, Local.keeps_to, Tables.Tables, Tables.AllowsAll}
-use Rattle.outcome_laws.proofs.Facts.{either_left}
-use Rattle.outcome_laws.proofs.Silent.{IsQuiet, silent_step}
 use Rattle.outcome_laws.proofs.Fitting.{every_step_fits, fits_by_its_target, silent_steps_are_local}
 use Rattle.live_registers.specs.{Targets.allows, Targets.is_jump, declared.targets.Targets.Targets}
 use Rattle.sc_machine.specs.{Harts.HartAgrees, Harts.register_written, declared.hart.Hart.Hart}
@@ -24,10 +22,11 @@ use Rattle.sc_machine.proofs.Harts.{own_hart}
 use Rattle.sc_machine.specs.Here.{computed_here}
 use Rattle.shared_memory.specs.Contents.{Contents}
 use Rattle.changed_memory.specs.Shared.{Shared, byte_at, reserved_at}
-use Rattle.condensed_machine.specs.Settling.{HartsStay, OthersStay, GoesOn, HasTargets, is_followed}
+use Rattle.condensed_machine.specs.Settling.{HartsStay, OthersStay, GoesOn, HasTargets, IsFree, fails, is_followed}
 use Rattle.condensed_machine.specs.{Machine.Program, Machine.tables_of, Machine.IsSound}
 use Rattle.condensed_machine.specs.Executing.{SharedAgrees, IsExecuted}
 use Rattle.condensed_machine.specs.declared.executed.Executed.{Executed}
+use Rattle.condensed_machine.proofs.Failing.{LeavesAlone, followed_leaves, lacks_where_free}
 use Rattle.condensed_machine.proofs.Finding.{below, computed_same, shared_same}
 
 -- By the tables of a program jumps by registers go on where its targets say; where those say anywhere, the tables
@@ -59,18 +58,19 @@ second_no true b off = off
 second_no false b off = refl
 
 -- No step of a hart is followed that doesn't go.
-pub stands_over : (setup : Setup) (tables : Tables) (s : Plain) (h : ℕ) (x : Hart) → HartAgrees s h x
-    → is_going_status x.status ≡ false → (can_step setup h s && is_followed setup tables h s) ≡ false
-stands_over setup tables s h x is over =
-    either_no (nat_lt h setup.harts) (is_going_status (s.statuses h)) (is_followed setup tables h s)
+pub stands_over : (setup : Setup) (tables : Tables) (free : Bool) (s : Plain) (h : ℕ) (x : Hart) → HartAgrees s h x
+    → is_going_status x.status ≡ false → (can_step setup h s && is_followed setup tables free h s) ≡ false
+stands_over setup tables free s h x is over =
+    either_no (nat_lt h setup.harts) (is_going_status (s.statuses h)) (is_followed setup tables free h s)
     (ap is_going_status (sym is.status) ∙ over)
 
 -- Where the code may be written no step is followed.
-pub stands_written : (setup : Setup) (tables : Tables) (s : Plain) (h : ℕ) → code_writable setup.image ≡ true
-    → (can_step setup h s && is_followed setup tables h s) ≡ false
-stands_written setup tables s h writable =
-    second_no (can_step setup h s) (is_followed setup tables h s)
-    (ap (λ b. not b && (is_silent (op_at_pc setup s h) (computes setup s h) && fits setup tables h s)) writable)
+pub stands_written : (setup : Setup) (tables : Tables) (free : Bool) (s : Plain) (h : ℕ)
+    → code_writable setup.image ≡ true → (can_step setup h s && is_followed setup tables free h s) ≡ false
+stands_written setup tables free s h writable =
+    second_no (can_step setup h s) (is_followed setup tables free h s)
+    (ap (λ b. not b && ((is_silent (op_at_pc setup s h) (computes setup s h) || fails free (op_at_pc setup s h))
+    && fits setup tables h s)) writable)
 
 -- The state behind an instruction, told by what was executed.
 pub after_same : (setup : Setup) (s : Plain) (h : ℕ) (op : Op) (addr : ℕ) (e : Effect) → op ≡ op_at_pc setup s h
@@ -100,13 +100,13 @@ harts_after s h op addr e small = record {
       (second_no (g == h) (r == destination op) other);
 }
 
-quiet_stays : (s : Plain) (h : ℕ) (op : Op) (addr : ℕ) (e : Effect) → destination op < 32 → IsQuiet op addr e
-    → OthersStay h s (after s h op addr e)
-quiet_stays s h op addr e small quiet = record {
+others_stay : (s : Plain) (h : ℕ) (op : Op) (addr : ℕ) (e : Effect) → destination op < 32
+    → LeavesAlone s h op addr e → OthersStay h s (after s h op addr e)
+others_stay s h op addr e small leaves = record {
   harts = harts_after s h op addr e small;
-  reserved = λ g. quiet.reserved (g == h) (s.reserved g);
-  bytes = λ a. ap (λ w. byte_after w a (s.bytes a)) quiet.write;
-  output = ap (λ out. output_after out s.output) quiet.out;
+  reserved = leaves.reserved;
+  bytes = λ a. ap (λ w. byte_after w a (s.bytes a)) leaves.write;
+  output = ap (λ out. output_after out s.output) leaves.out;
 }
 
 -- What was executed of hart x, and the hart y that it has made.
@@ -132,8 +132,12 @@ module _ (setup : Setup) (s : Plain) (h : ℕ) (op : Op) (c : Computed) (e : Eff
       ∙ ap (λ (d : Computed). effect_of (op_at_pc setup s h) d (read (op_at_pc setup s h) s.bytes d.addr)
       (holds_word (s.reserved h) d.addr)) of_computed
 
-  silent_same : is_silent (op_at_pc setup s h) (computes setup s h) ≡ is_silent op c
-  silent_same = ap (λ o. is_silent o (computes setup s h)) (sym of_op) ∙ ap (is_silent op) (sym of_computed)
+  followed_same : (free : Bool)
+      → (is_silent (op_at_pc setup s h) (computes setup s h) || fails free (op_at_pc setup s h))
+      ≡ (is_silent op c || fails free op)
+  followed_same free =
+      ap (λ o. is_silent o (computes setup s h) || fails free o) (sym of_op)
+      ∙ ap (λ d. is_silent op d || fails free op) (sym of_computed)
 
   -- Where the code may not be written, a step fits by where it goes on.
   fits_same : (targets : Targets) (tables : Tables) (pc : ℕ) → HasTargets targets tables
@@ -147,49 +151,53 @@ module _ (setup : Setup) (s : Plain) (h : ℕ) (op : Op) (c : Computed) (e : Eff
       ∙ ap (λ n. keeps_to (allows targets) op n (computes setup s h).next) (sym at)
       ∙ ap (λ (d : Computed). keeps_to (allows targets) op pc d.next) (sym of_computed)
 
-  -- No step is followed that touches memory, or puts a byte out, or doesn't fit.
-  pub stands_at : (targets : Targets) (tables : Tables) (pc : ℕ) → HasTargets targets tables
+  -- No step is followed that doesn't fit, or touches memory or puts a byte out and isn't SC of a hart that is free.
+  pub stands_at : (targets : Targets) (tables : Tables) (free : Bool) (pc : ℕ) → HasTargets targets tables
       → code_writable setup.image ≡ false → pc ≡ s.pcs h
-      → (is_silent op c && keeps_to (allows targets) op pc c.next) ≡ false
-      → (can_step setup h s && is_followed setup tables h s) ≡ false
-  stands_at targets tables pc has fixed at seen =
-      second_no (can_step setup h s) (is_followed setup tables h s)
+      → ((is_silent op c || fails free op) && keeps_to (allows targets) op pc c.next) ≡ false
+      → (can_step setup h s && is_followed setup tables free h s) ≡ false
+  stands_at targets tables free pc has fixed at seen =
+      second_no (can_step setup h s) (is_followed setup tables free h s)
       (second_no (not (code_writable setup.image))
-      (is_silent (op_at_pc setup s h) (computes setup s h) && fits setup tables h s)
-      (ap (λ b. b && fits setup tables h s) silent_same
-      ∙ ap (λ b. is_silent op c && b) (fits_same targets tables pc has fixed at) ∙ seen))
+      ((is_silent (op_at_pc setup s h) (computes setup s h) || fails free (op_at_pc setup s h))
+      && fits setup tables h s)
+      (ap (λ b. b && fits setup tables h s) (followed_same free)
+      ∙ ap (λ b. (is_silent op c || fails free op) && b) (fits_same targets tables pc has fixed at) ∙ seen))
 
   -- A step that is followed is local.
-  followed_is_local : (targets : Targets) (tables : Tables) (pc : ℕ) → HasTargets targets tables
-      → code_writable setup.image ≡ false → pc ≡ s.pcs h → is_silent op c ≡ true
-      → keeps_to (allows targets) op pc c.next ≡ true → is_local setup tables h s ≡ true
-  followed_is_local targets tables pc has fixed at silent keeps =
+  followed_is_local : (targets : Targets) (tables : Tables) (free : Bool) (pc : ℕ) → HasTargets targets tables
+      → code_writable setup.image ≡ false → pc ≡ s.pcs h → IsFree free h s
+      → (is_silent op c || fails free op) ≡ true → keeps_to (allows targets) op pc c.next ≡ true
+      → is_local setup tables h s ≡ true
+  followed_is_local targets tables free pc has fixed at is_free followed keeps =
       silent_steps_are_local setup tables h s
       (second_no (tables.rewritten (s.pcs h)) (code_writable setup.image) fixed)
-      (either_left (is_silent (op_at_pc setup s h) (computes setup s h)) (lacks_reservation setup h s)
-      (silent_same ∙ silent))
+      (lacks_where_free setup s h free is_free (followed_same free ∙ followed))
       (fits_same targets tables pc has fixed at ∙ keeps)
 
-  pub goes_by_one : (targets : Targets) (tables : Tables) (x y : Hart) → HasTargets targets tables
-      → code_writable setup.image ≡ false → h < setup.harts → HartAgrees s h x → is_going_status x.status ≡ true
-      → is_silent op c ≡ true → keeps_to (allows targets) op x.pc c.next ≡ true
-      → ((now : ℕ) (held : Bool) → e ≡ effect_of op c now held) → HasAdvanced op e x y
-      → GoesOn setup tables h 1 s y
-  goes_by_one targets tables x y has fixed inside is going silent keeps effect advanced =
+  pub goes_by_one : (targets : Targets) (tables : Tables) (free : Bool) (x y : Hart) → HasTargets targets tables
+      → code_writable setup.image ≡ false → h < setup.harts → HartAgrees s h x → IsFree free h s
+      → is_going_status x.status ≡ true → (is_silent op c || fails free op) ≡ true
+      → keeps_to (allows targets) op x.pc c.next ≡ true
+      → ((now : ℕ) (held : Bool) → (free ≡ true → held ≡ false) → e ≡ effect_of op c now held)
+      → HasAdvanced op e x y → GoesOn setup tables h 1 s y
+  goes_by_one targets tables free x y has fixed inside is is_free going followed keeps effect advanced =
       let same = after_same setup s h op c.addr e of_op (ap (λ (d : Computed). d.addr) of_computed)
-      (effect_same (effect (read op s.bytes c.addr) (holds_word (s.reserved h) c.addr))) in
-      let quiet : IsQuiet op c.addr e =
-      subst (IsQuiet op c.addr) (sym (effect 0 false)) ((silent_step op c silent).quiet c.addr 0 false) in
+      (effect_same (effect (read op s.bytes c.addr) (holds_word (s.reserved h) c.addr)
+      (λ free. ap (λ held. holds_word held c.addr) (is_free free)))) in
+      let leaves : LeavesAlone s h op c.addr e =
+      subst (LeavesAlone s h op c.addr) (sym (effect 0 false (λ free. refl)))
+      (followed_leaves s h op c c.addr free is_free followed) in
       record {
         there = stepped setup h s;
         local = (
           can_go setup s h x inside is going,
-          followed_is_local targets tables x.pc has fixed is.pc silent keeps,
+          followed_is_local targets tables free x.pc has fixed is.pc is_free followed keeps,
           refl,
         );
         agrees = hart_behind setup s h op c.addr e x y is advanced same;
-        others = subst (OthersStay h s) same (quiet_stays s h op c.addr e
-            (subst (λ o. destination o < 32) (sym of_op) (written_below setup s h)) quiet);
+        others = subst (OthersStay h s) same (others_stay s h op c.addr e
+            (subst (λ o. destination o < 32) (sym of_op) (written_below setup s h)) leaves);
       }
 
 -- What was executed, on memory as the image has it with what has changed since.

@@ -1,6 +1,7 @@
 pub mod Finding
 pub mod Coded
 pub mod Following
+pub mod Failing
 pub mod Instructions
 pub mod Alike
 pub mod Numbers

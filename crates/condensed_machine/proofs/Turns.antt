@@ -92,7 +92,7 @@ module _ (p : Program) (table : List Hart) (ways numbers : List ℕ) (setup : Se
       let goes : GoesOn setup (tables_of p) h (slice_index ways h) now.there own.rests.moved =
       own.rests.settles.leads setup (tables_of p) h now.there (has_targets p) image there
       (has_local setup (tables_of p) (turns ways h) (start setup) now.there (paths_keep_code setup).0 now.local)
-      (first_agrees h now own.first own.is_first) in
+      (first_agrees h now own.first own.is_first) (λ free. now.reserved h) in
       record {
         there = goes.there;
         local = paths_join setup (tables_of p) (turns ways h) (replicate (slice_index ways h) h) (start setup) now.there

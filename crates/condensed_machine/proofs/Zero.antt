@@ -1,5 +1,5 @@
 -- x0 stays 0 under what is said of each state.
-use Rattle.std.proofs.Common.{◌≡◌, ℕ, ◌<◌, ◌+◌, [], refl, sym, subst, ◌∙◌, arith}
+use Rattle.std.proofs.Common.{◌≡◌, ℕ, ◌<◌, ◌+◌, Bool, [], refl, sym, subst, ◌∙◌, arith}
 use Rattle.std.specs.Prelude.{◌==◌, if◌then◌else◌, slice_index}
 use Rattle.std.proofs.lemmas.Bool.Decides.{nat_tests}
 use Rattle.elf_image.specs.Image.{ProgramImage}
@@ -47,13 +47,13 @@ zero_behind p h x y shared behind zero =
     record { reserved = λ g. refl; bytes = λ a. refl; output = refl } in
     (behind (some_setup p.image h) s refl inside (some_agrees p.image x shared h zero) agrees).registers 0 (omega arith)
 
-pub zero_rests : (p : Program) (x y : Hart) (steps : ℕ) → ComesToRest p x steps y → slice_index x.registers 0 ≡ 0
-    → slice_index y.registers 0 ≡ 0
-zero_rests p x y steps rests zero =
+pub zero_rests : (p : Program) (free : Bool) (x y : Hart) (steps : ℕ) → ComesToRest p free x steps y
+    → slice_index x.registers 0 ≡ 0 → slice_index y.registers 0 ≡ 0
+zero_rests p free x y steps rests zero =
     let none : Shared = record { changes = []; reserved = []; output = [] } in
     let inside : 0 < 1 = omega arith in
     let goes =
     rests.settles.leads (some_setup p.image 0) (tables_of p) 0 (some_state p.image x none) (has_targets p) refl inside
     (λ fixed pc. refl)
-    (some_agrees p.image x none 0 zero) in
+    (some_agrees p.image x none 0 zero) (λ is. refl) in
     rests.rested.zero ∙ goes.agrees.registers 0 (omega arith)

@@ -1,5 +1,5 @@
 use Rattle.std.proofs.Common.{◌≡◌, ℕ, ◌+◌, ◌<◌, ◌≤◌, length, sym, subst, ◌∙◌, arith}
-use Rattle.std.specs.Prelude.{slice_set, slice_index}
+use Rattle.std.specs.Prelude.{true, slice_set, slice_index}
 use Rattle.std.proofs.lemmas.List.{length-set}
 use Rattle.condensed_machine.specs.Beginning.{HaveBegun}
 use Rattle.condensed_machine.proofs.Starting.{begun_more, absent_more}
@@ -9,14 +9,14 @@ use Rattle.condensed_machine.proofs.beginning.first_harts.Goals as goal
 pub returns-in_err-first-clause-zero : goal.returns-in_err-first-clause-zero
 returns-in_err-first-clause-zero c = λ before.
     c.number_hart.ensures.zero (c.loop-hart.invariant.zero before)
-    (zero_rests c.args.program.now c.first_hart-state.result c.come_to_rest.new.state c.come_to_rest.result
+    (zero_rests c.args.program.now true c.first_hart-state.result c.come_to_rest.new.state c.come_to_rest.result
     c.come_to_rest.ensures (c.first_hart-state.ensures.registers 0))
 
 pub returns-in_err-first-clause-rest : goal.returns-in_err-first-clause-rest
 returns-in_err-first-clause-rest c = λ before.
     let p = c.args.program.now in
     c.number_hart.ensures.rest p.live p.watched (c.loop-hart.invariant.rest before)
-    (at_rest p c.first_hart-state.result c.come_to_rest.new.state c.come_to_rest.result c.come_to_rest.ensures)
+    (at_rest p true c.first_hart-state.result c.come_to_rest.new.state c.come_to_rest.result c.come_to_rest.ensures)
 
 pub loop-hart-preserved : goal.loop-hart-preserved
 loop-hart-preserved c =
@@ -55,10 +55,10 @@ loop-hart-preserved c =
           (sym c.from-in-loop-hart.ensures) (absent_more h number numbers c.loop-hart.invariant.absent);
       zero = λ before.
           c.number_hart.ensures.zero (c.loop-hart.invariant.zero before)
-          (zero_rests p c.first_hart-state.result c.come_to_rest.new.state way c.come_to_rest.ensures
+          (zero_rests p true c.first_hart-state.result c.come_to_rest.new.state way c.come_to_rest.ensures
           (c.first_hart-state.ensures.registers 0));
       rest = λ before.
           c.number_hart.ensures.rest p.live p.watched (c.loop-hart.invariant.rest before)
-          (at_rest p c.first_hart-state.result c.come_to_rest.new.state way c.come_to_rest.ensures);
+          (at_rest p true c.first_hart-state.result c.come_to_rest.new.state way c.come_to_rest.ensures);
       registers = λ before. c.number_hart.ensures.registers (c.loop-hart.invariant.registers before);
     }
