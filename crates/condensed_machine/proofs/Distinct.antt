@@ -35,8 +35,9 @@ forms_kept image other old new same keeps = subst (λ i. HaveOneForm i old → H
 
 -- ---- Registers that aren't kept
 
-pub at_rest : (p : Program) (x y : Hart) (steps : ℕ) → ComesToRest p x steps y → IsAtRest p.live p.watched y
-at_rest p x y steps rests r some below unkept =
+pub at_rest : (p : Program) (free : Bool) (x y : Hart) (steps : ℕ) → ComesToRest p free x steps y
+    → IsAtRest p.live p.watched y
+at_rest p free x y steps rests r some below unkept =
     let rested = rests.rested in
     let moved = rests.moved in
     rested.registers r some below

@@ -1,6 +1,6 @@
 -- A step of a machine that has learned of the parts of the next state.
 use Rattle.std.proofs.Common.{◌≡◌, ◌≢◌, ℕ, ◌<◌, ◌≤◌, true, replicate, length, map, sym, ap, subst, ◌∙◌, arith}
-use Rattle.std.proofs.Common.{inl, inr}
+use Rattle.std.proofs.Common.{Bool, inl, inr}
 use Rattle.std.specs.Prelude.{slice_set, slice_index}
 use Rattle.std.proofs.lemmas.Bool.{cases_eq}
 use Rattle.std.proofs.lemmas.List.{get_or-set_other, get_or-set_same, length-set}
@@ -13,8 +13,8 @@ use Rattle.condensed_machine.specs.Machine.{Program, IsSound, tables_of, Machine
 use Rattle.condensed_machine.specs.Decoded.{AreDropped, Decoded, decoded, full, hart_at, hart_in, no_shared, numbers_of}
 use Rattle.condensed_machine.specs.{Decoded.Knows, Numbering.near_harts}
 use Rattle.condensed_machine.specs.Executing.{IsExecuted, IsBehind, ComesToRest, InEachState, SharedAfter}
-use Rattle.condensed_machine.specs.{Tables.HasNumber, Tables.IsSharedAfter, Steps.SettlesBy, Steps.MakesStep}
-use Rattle.condensed_machine.specs.{Resting.keeps_reservation, declared.executed.Executed.Executed}
+use Rattle.condensed_machine.specs.{Tables.HasNumber, Tables.IsSharedAfter, Steps.SettlesBy, Steps.MakesMove}
+use Rattle.condensed_machine.specs.{Resting.keeps_reservation, Settling.IsFree, declared.executed.Executed.Executed}
 use Rattle.condensed_machine.specs.{declared.state.State.State}
 use Rattle.condensed_machine.proofs.{Instructions.can_go}
 use Rattle.condensed_machine.proofs.Dropped.{dropped_next}
@@ -35,7 +35,9 @@ pub record HasDone (m n : Machine) (s t : State) (h steps : ℕ) (x : Hart) (com
   pub executed : InEachState m.program h x common (λ setup u. IsExecuted setup u h done)
   pub is_behind : InEachState m.program h x common (λ setup u. IsBehind setup u h behind)
   pub fitting : InEachState m.program h x common (λ setup u. fits setup (tables_of m.program) h u ≡ true)
-  pub rests : ComesToRest m.program behind steps moved
+  pub free : Bool
+  pub is_free : InEachState m.program h x common (λ setup u. IsFree free h (stepped setup h u))
+  pub rests : ComesToRest m.program free behind steps moved
   pub has : HasNumber n.hart_states moved number
   pub numbered : numbers_of n t ≡ slice_set (numbers_of m s) h number
   pub near : length t.near ≡ near_harts
@@ -74,6 +76,8 @@ module _ (m n : Machine) (s t : State) (h steps : ℕ) (sound : IsSound m.progra
     behind = moved.behind;
     executed = moved.executed;
     is_behind = moved.is_behind;
+    free = moved.free;
+    is_free = moved.is_free;
     rests = moved.rests;
     own = own;
     others = others;
@@ -130,7 +134,7 @@ module _ (m n : Machine) (s t : State) (h steps : ℕ) (sound : IsSound m.progra
         (dropped_next m.program (decoded m s) (decoded n t) h steps moved.done moved.moved inside next knows.dropped);
   }
 
-  pub made : InEachSetup n.program (λ setup. MakesStep setup n s h (record { state = t; way = steps }))
+  pub made : InEachSetup n.program (λ setup. MakesMove setup n s h steps t)
   made = λ setup image harts.
       let now = makes setup (image ∙ ap (λ (p : Program). p.image) grows.program)
       (harts ∙ ap (λ (p : Program). p.harts) grows.program) in

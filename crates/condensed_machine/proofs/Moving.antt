@@ -1,7 +1,7 @@
 -- A step of a hart, from the parts of the state before it to those behind it.
 use Rattle.std.proofs.Common.{◌≡◌, ◌≢◌, ℕ, ◌<◌, true, false, replicate, refl, sym, ap, subst, ◌∙◌, arith, inl, inr}
-use Rattle.std.specs.Prelude.{◌==◌, ◌&&◌, not, Bool, if◌then◌else◌, nat_lt, slice_index}
-use Rattle.std.proofs.lemmas.Bool.{cases_eq, Decides.nat_tests}
+use Rattle.std.specs.Prelude.{◌==◌, ◌&&◌, not, Bool, Option, Some, None, is_some, if◌then◌else◌, nat_lt, slice_index}
+use Rattle.std.proofs.lemmas.Bool.{true≢false, cases_eq, Decides.nat_tests}
 use Rattle.smt_model.specs.{declared.config.Status.TheVariants.Going}
 use Rattle.smt_model.specs.{Setup.Setup, Kinds.destination, Bytes.byte_after, Reservations.reservation_after}
 use Rattle.smt_model.specs.Plain.{Plain, after, output_after, is_going_status}
@@ -11,7 +11,7 @@ use Rattle.live_registers.specs.Table.{kept_of}
 use Rattle.outcome_laws.proofs.Holding.{has_next}
 use Rattle.sc_machine.specs.{Harts.HartAgrees, declared.hart.Hart.Hart}
 use Rattle.changed_memory.specs.Shared.{Shared, byte_at, reserved_at}
-use Rattle.condensed_machine.specs.{Settling.HartsStay, Settling.OthersStay, Settling.GoesOn}
+use Rattle.condensed_machine.specs.{Settling.HartsStay, Settling.OthersStay, Settling.GoesOn, Settling.IsFree}
 use Rattle.condensed_machine.specs.{Machine.Program, Machine.tables_of, Machine.IsSound, Machine.HasCode}
 use Rattle.condensed_machine.specs.{Steps.SettlesBy, Resting.keeps_reservation, Executing.is_dropped}
 use Rattle.condensed_machine.specs.Decoded.{Decoded, full, hart_at, register_of}
@@ -75,12 +75,32 @@ shared_stays p h kept s t shared others agrees = record {
   output = agrees.output ∙ sym others.output;
 }
 
+none_there : (held : Option ℕ) → not (is_some held) ≡ true → held ≡ None
+none_there None none = refl
+none_there (Some addr) none = absurd (true≢false (sym none))
+
+-- Hart h is free behind its instruction, if it has no reservation then.
+pub free_behind : (image : ProgramImage) (setup : Setup) (s : Plain) (h : ℕ) (e : Executed) (shared : Shared)
+    (held : Bool) → IsExecuted setup s h e → SharedAgrees image s shared
+    → held ≡ is_some (reservation_after e.op e.addr e.effect true (reserved_at shared h))
+    → IsFree (not held) h (stepped setup h s)
+free_behind image setup s h e shared held executed agrees has = λ free.
+    let own : (h == h) ≡ true = grind (arith, nat_tests) in
+    let behind = reservation_after e.op e.addr e.effect true (reserved_at shared h) in
+    ap (λ (u : Plain). u.reserved h)
+    (sym (after_same setup s h e.op e.addr e.effect executed.op executed.addr executed.effect))
+    ∙ ap (λ b. reservation_after e.op e.addr e.effect b (s.reserved h)) own
+    ∙ ap (reservation_after e.op e.addr e.effect true) (sym (agrees.reserved h))
+    ∙ none_there behind (ap not (sym has) ∙ free)
+
 -- Hart h of d has stepped and come to rest as y, and the parts of e are those behind it.
 pub record IsNext (p : Program) (d e : Decoded) (h : ℕ) (done : Executed) (steps : ℕ) (y : Hart) : Type 0 where
   pub behind : Hart
   pub executed : InEachState p h (hart_at d.harts h) d.shared (λ setup s. IsExecuted setup s h done)
   pub is_behind : InEachState p h (hart_at d.harts h) d.shared (λ setup s. IsBehind setup s h behind)
-  pub rests : ComesToRest p behind steps y
+  pub free : Bool
+  pub is_free : InEachState p h (hart_at d.harts h) d.shared (λ setup s. IsFree free h (stepped setup h s))
+  pub rests : ComesToRest p free behind steps y
   pub own : hart_at e.harts h ≡ y
   pub others : (g : ℕ) → g ≢ h → hart_at e.harts g ≡ hart_at d.harts g
   pub shared : SharedAfter p.image h done (keeps_reservation p.live y) d.shared e.shared
@@ -108,6 +128,7 @@ module _ (p : Program) (d e : Decoded) (h steps : ℕ) (done : Executed) (y : Ha
   goes =
       next.rests.settles.leads setup (tables_of p) h behind (has_targets p) image there holds
       (next.is_behind setup (full p d) image there (hart_is p d h inside zero) (shared_is p d))
+      (next.is_free setup (full p d) image there (hart_is p d h inside zero) (shared_is p d))
 
   abbrev keeps : Bool
   keeps = keeps_reservation p.live y

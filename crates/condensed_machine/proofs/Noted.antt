@@ -14,9 +14,10 @@ use Rattle.condensed_machine.specs.Machine.{Machine, Program, IsSound, Grows, Ke
 use Rattle.condensed_machine.specs.Decoded.{Decoded, decoded, hart_at, hart_in, shared_at, no_hart, no_shared}
 use Rattle.condensed_machine.specs.Decoded.{numbers_of, Knows}
 use Rattle.condensed_machine.specs.Learning.{still_decoded, still_knows, still_numbered}
+use Rattle.condensed_machine.specs.{Losing.IsRest, Losing.AreRests, declared.losing.Rest.Rest}
 use Rattle.condensed_machine.specs.Moves.{IsMove, IsMoveOf, AreMoves, is_same_from}
 use Rattle.condensed_machine.specs.{Numbering.HasNumbers, Resting.keeps_reservation, Tables.IsSharedAfter}
-use Rattle.condensed_machine.specs.{Steps.MakesStep, declared.state.State.State}
+use Rattle.condensed_machine.specs.{Steps.MakesMove, declared.state.State.State}
 use Rattle.condensed_machine.specs.declared.moves.MoveFrom.{MoveFrom}
 use Rattle.condensed_machine.specs.declared.moves.MoveTo.{MoveTo}
 use Rattle.condensed_machine.proofs.Made.{HasDone, HasMoved, moved_from, made, known}
@@ -48,6 +49,8 @@ module _ (p : Program) (old new : List Hart) (before now : List Shared) (keeps :
     executed = move.executed;
     is_behind = move.is_behind;
     fitting = move.fitting;
+    free = move.free;
+    is_free = move.is_free;
     rests = move.rests;
     has = keeps to.number move.moved move.has;
     after = after_stays from.hart from to move;
@@ -55,6 +58,22 @@ module _ (p : Program) (old new : List Hart) (before now : List Shared) (keeps :
 
   pub moves_stay : (noted : List (MoveFrom × MoveTo)) → AreMoves p old before noted → AreMoves p new now noted
   moves_stay noted are = λ from to is. move_stays from to (are from to is)
+
+-- Of a hart that has lost its reservation.
+pub rest_stays : (p : Program) (old new : List Hart) (keeps : Keeps old new) (number : ℕ) (to : Rest)
+    → IsRest p old number to → IsRest p new number to
+rest_stays p old new keeps number to rest = record {
+  here = rest.here;
+  at = keeps number rest.here rest.at;
+  zero = rest.zero;
+  moved = rest.moved;
+  rests = rest.rests;
+  has = keeps to.number rest.moved rest.has;
+}
+
+pub rests_stay : (p : Program) (old new : List Hart) (keeps : Keeps old new) (noted : List (ℕ × Rest))
+    → AreRests p old noted → AreRests p new noted
+rests_stay p old new keeps noted are = λ number to is. rest_stays p old new keeps number to (are number to is)
 
 -- ---- What is looked up, and noted
 
@@ -74,6 +93,13 @@ nothing_noted p harts shared noted none = λ from to is.
     absurd (none_some to (sym (ap (lookup (is_same_from from)) none) ∙ is))
   where
     none_some : (to : MoveTo) → None ≡ Some to → ⊥
+    none_some to same = cc
+
+pub no_rests : (p : Program) (harts : List Hart) (noted : List (ℕ × Rest)) → noted ≡ [] → AreRests p harts noted
+no_rests p harts noted none = λ number to is.
+    absurd (none_some to (sym (ap (lookup (nat_eq number)) none) ∙ is))
+  where
+    none_some : (to : Rest) → None ≡ Some to → ⊥
     none_some to same = cc
 
 module _ (p : Program) (harts : List Hart) (shared : List Shared) where
@@ -148,7 +174,7 @@ module _ (m k n : Machine) (s t : State) (h : ℕ) (from : MoveFrom) (to : MoveT
       (here_is ∙ ap (λ (d : Decoded). hart_at d.harts h) (still_decoded m k s first knows))
       ∙ going
 
-  done : HasDone k n s t from.hart to.way move.here move.common
+  done : HasDone k n s t from.hart to.steps move.here move.common
   done = record {
     zero = move.zero;
     code = move.code;
@@ -160,6 +186,8 @@ module _ (m k n : Machine) (s t : State) (h : ℕ) (from : MoveFrom) (to : MoveT
     executed = move.executed;
     is_behind = move.is_behind;
     fitting = move.fitting;
+    free = move.free;
+    is_free = move.is_free;
     rests = move.rests;
     has = second.hart_states to.number move.moved move.has;
     numbered = numbered.numbers_are ∙ ap (λ g. slice_set (numbers_of k s) g to.number) (sym of_hart);
@@ -173,13 +201,13 @@ module _ (m k n : Machine) (s t : State) (h : ℕ) (from : MoveFrom) (to : MoveT
         second.shared_states from.hart from to move);
   }
 
-  moved : HasMoved k n s t h to.way
+  moved : HasMoved k n s t h to.steps
   moved =
-      moved_from k n s t h to.way move.here move.common here_is common_is
-      (subst (λ (g : ℕ). HasDone k n s t g to.way move.here move.common) of_hart done)
+      moved_from k n s t h to.steps move.here move.common here_is common_is
+      (subst (λ (g : ℕ). HasDone k n s t g to.steps move.here move.common) of_hart done)
 
-  pub goes_on : InEachSetup n.program (λ setup. MakesStep setup n s h (record { state = t; way = to.way }))
-  goes_on = made k n s t h to.way sound second knows_now there moved
+  pub goes_on : InEachSetup n.program (λ setup. MakesMove setup n s h to.steps t)
+  goes_on = made k n s t h to.steps sound second knows_now there moved
 
   pub knows_next : Knows n t
-  knows_next = known k n s t h to.way sound second knows_now there moved
+  knows_next = known k n s t h to.steps sound second knows_now there moved

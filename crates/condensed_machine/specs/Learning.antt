@@ -13,8 +13,8 @@ use Rattle.searches.specs.declared.step.Step.{Step}
 use Rattle.condensed_machine.specs.Machine.{Program, tables_of, Machine, Grows, Keeps}
 use Rattle.condensed_machine.specs.Decoded.{AreDropped, Decoded, decoded, full, hart_at, no_hart, no_shared, numbers_of}
 use Rattle.condensed_machine.specs.Decoded.{state_of, Knows}
-use Rattle.condensed_machine.specs.Steps.{SettlesBy, MakesStep, Steps}
-use Rattle.condensed_machine.specs.declared.state.State.{State}
+use Rattle.condensed_machine.specs.Steps.{SettlesBy, MakesMove, MakesStep, Steps, local_steps, turns}
+use Rattle.condensed_machine.specs.declared.{state.State.State, way.Way.Way}
 
 -- ---- A table that grows
 
@@ -76,6 +76,7 @@ learns_nothing m = record {
   hart_states = λ n x is. is;
   far_harts = λ n x is. is;
   shared_states = λ n x is. is;
+  rows = λ n x is. is;
 }
 
 pub learns_more : (l m n : Machine) → Grows l m → Grows m n → Grows l n
@@ -84,6 +85,7 @@ learns_more l m n first second = record {
   hart_states = λ k x is. second.hart_states k x (first.hart_states k x is);
   far_harts = λ k x is. second.far_harts k x (first.far_harts k x is);
   shared_states = λ k x is. second.shared_states k x (first.shared_states k x is);
+  rows = λ k x is. second.rows k x (first.rows k x is);
 }
 
 pub same_harts : (m n : Machine) → Grows m n → m.program.harts ≡ n.program.harts
@@ -94,34 +96,61 @@ same_harts m n grows = ap (λ (p : Program). p.harts) (sym grows.program)
 pub state_same : (m n : Machine) (s : State) → Grows m n → Knows m s → state_of n s ≡ state_of m s
 state_same m n s grows knows = ap₂ full grows.program (still_decoded m n s grows knows)
 
-still_makes : (m n : Machine) (s : State) (h : ℕ) (step : Step State Way) (setup : Setup) → Grows m n → Knows m s
-    → Knows m step.state → MakesStep setup m s h step → MakesStep setup n s h step
-still_makes m n s h step setup grows knows next makes =
+-- What is said of an order of local steps behind a step.
+still_leads : (m n : Machine) (s t : State) (h : ℕ) (setup : Setup) (order : List ℕ) → Grows m n → Knows m s → Knows m t
+    → SettlesBy setup m.program order (stepped setup h (state_of m s)) (state_of m t)
+    → SettlesBy setup n.program order (stepped setup h (state_of n s)) (state_of n t)
+still_leads m n s t h setup order grows knows next leads =
     let here = state_same m n s grows knows in
-    let there = state_same m n step.state grows next in
-    let order = replicate step.way h in
-    record {
-      can = ap (can_step setup h) here ∙ makes.can;
-      fits =
-          ap (fits setup (tables_of n.program) h) here
-          ∙ ap (λ (p : Program). fits setup (tables_of p) h (state_of m s)) grows.program ∙ makes.fits;
-      leads =
-          subst (λ (p : Program). SettlesBy setup p order (stepped setup h (state_of n s)) (state_of n step.state))
-          (sym grows.program)
-          (subst (λ (u : Plain). SettlesBy setup m.program order (stepped setup h u) (state_of n step.state)) (sym here)
-          (subst (λ (u : Plain). SettlesBy setup m.program order (stepped setup h (state_of m s)) u) (sym there)
-          makes.leads));
-      knows = still_knows m n step.state grows next;
-    }
+    let there = state_same m n t grows next in
+    subst (λ (p : Program). SettlesBy setup p order (stepped setup h (state_of n s)) (state_of n t)) (sym grows.program)
+    (subst (λ (u : Plain). SettlesBy setup m.program order (stepped setup h u) (state_of n t)) (sym here)
+    (subst (λ (u : Plain). SettlesBy setup m.program order (stepped setup h (state_of m s)) u) (sym there) leads))
 
-pub still_true : (m n : Machine) (s : State) (h : ℕ) (next : Option (Step State ℕ)) → Grows m n → Knows m s
+still_fits : (m n : Machine) (s : State) (h : ℕ) (setup : Setup) → Grows m n → Knows m s
+    → fits setup (tables_of m.program) h (state_of m s) ≡ true
+    → fits setup (tables_of n.program) h (state_of n s) ≡ true
+still_fits m n s h setup grows knows fitting =
+    ap (fits setup (tables_of n.program) h) (state_same m n s grows knows)
+    ∙ ap (λ (p : Program). fits setup (tables_of p) h (state_of m s)) grows.program ∙ fitting
+
+pub still_moves : (m n : Machine) (s : State) (h steps : ℕ) (t : State) (setup : Setup) → Grows m n → Knows m s
+    → MakesMove setup m s h steps t → MakesMove setup n s h steps t
+still_moves m n s h steps t setup grows knows makes = record {
+  can = ap (can_step setup h) (state_same m n s grows knows) ∙ makes.can;
+  fits = still_fits m n s h setup grows knows makes.fits;
+  leads = still_leads m n s t h setup (replicate steps h) grows knows makes.knows makes.leads;
+  knows = still_knows m n t grows makes.knows;
+}
+
+pub order_same : (m n : Machine) (h : ℕ) (way : Way) → Grows m n → way.others < length m.rows
+    → local_steps n.rows n.program.harts h way ≡ local_steps m.rows m.program.harts h way
+order_same m n h way grows row =
+    ap₂ (λ turned harts. replicate way.own h ++ turns turned harts)
+    (kept_at m.rows n.rows way.others [] grows.rows row) (ap (λ (p : Program). p.harts) grows.program)
+
+still_makes : (m n : Machine) (s : State) (h : ℕ) (step : Step State Way) (setup : Setup) → Grows m n → Knows m s
+    → MakesStep setup m s h step → MakesStep setup n s h step
+still_makes m n s h step setup grows knows makes = record {
+  can = ap (can_step setup h) (state_same m n s grows knows) ∙ makes.can;
+  fits = still_fits m n s h setup grows knows makes.fits;
+  row = kept_within m.rows n.rows step.way.others [] grows.rows makes.row;
+  leads =
+      subst (λ order. SettlesBy setup n.program order (stepped setup h (state_of n s)) (state_of n step.state))
+      (sym (order_same m n h step.way grows makes.row))
+      (still_leads m n s step.state h setup (local_steps m.rows m.program.harts h step.way) grows knows makes.knows
+      makes.leads);
+  knows = still_knows m n step.state grows makes.knows;
+}
+
+pub still_true : (m n : Machine) (s : State) (h : ℕ) (next : Option (Step State Way)) → Grows m n → Knows m s
     → IfSome next (λ step. Knows m step.state) → Steps m s h next → Steps n s h next
 still_true m n s h None grows knows next steps = λ setup image harts.
     ap (can_step setup h) (state_same m n s grows knows)
     ∙ steps setup (image ∙ ap (λ (p : Program). p.image) grows.program)
     (harts ∙ ap (λ (p : Program). p.harts) grows.program)
 still_true m n s h (Some step) grows knows next steps = λ setup image harts.
-    still_makes m n s h step setup grows knows next
+    still_makes m n s h step setup grows knows
     (steps setup (image ∙ ap (λ (p : Program). p.image) grows.program)
     (harts ∙ ap (λ (p : Program). p.harts) grows.program))
 

@@ -1,8 +1,8 @@
 //! What a step was, beside the hart that made it: the local steps that followed.
 
-ghost use Rattle.std.specs.Prelude.{◌≡◌, ◌<◌, [], IfOk, length, replicate, slice_get, slice_index_or};
-ghost use Rattle.numbers.specs.Sizes.{most_harts};
+ghost use Rattle.std.specs.Prelude.{◌≡◌, [], IfOk, slice_index_or};
 ghost use Rattle.condensed_machine.specs.Machine.{Keeps};
+ghost use Rattle.condensed_machine.specs.Steps.{no_turns};
 ghost use Rattle.condensed_machine.specs.Tables.{HasNumber};
 
 use crate::tables::number_of;
@@ -11,8 +11,8 @@ use numbers::sizes::HART_ROOM;
 use std::alloc::{AllocError, Global};
 use std::marker::Model;
 
-/// The row of no local steps of others, which is the first one.
-pub(crate) const NO_OTHERS: u32 = 0;
+/// The number of the row of no local steps of others, which is the first one.
+const NO_OTHERS: u32 = 0;
 
 /// The local steps behind a step: how many the hart itself made, and the number of the row of those that others made
 /// behind them, as they had lost their reservations.
@@ -46,6 +46,14 @@ impl Rows {
         let mut rows = IndexSet::new(alloc);
         rows.insert_full([0; HART_ROOM])?;
         Ok(Rows { rows })
+    }
+
+    /// The number of the row of none.
+    pub(crate) fn no_others(&self) -> u32
+        ensures { HasNumber self.now no_turns result }
+    {
+        let _rows = &self.rows;
+        NO_OTHERS
     }
 
     /// The number of a row: its place, which is the last where it wasn't there. Errors: want of memory.

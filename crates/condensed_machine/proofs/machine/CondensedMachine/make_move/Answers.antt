@@ -1,6 +1,6 @@
 use Rattle.std.proofs.Common.{◌≡◌, Bool, ◌<◌, length, Some, refl, sym, ap, subst, ◌∙◌}
-use Rattle.std.specs.Prelude.{slice_index, slice_get}
-use Rattle.std.proofs.lemmas.Option.{slice_get-get_or}
+use Rattle.std.specs.Prelude.{not, slice_index, slice_get}
+use Rattle.std.proofs.lemmas.Option.{slice_get-get_or, slice_get_within}
 use Rattle.elf_image.specs.Image.{ProgramImage}
 use Rattle.condensed_machine.specs.Machine.{Machine, Grows, HasCode, HaveCode, HaveZero}
 use Rattle.condensed_machine.specs.Distinct.{AreAtRest, HaveOneForm, HaveRegisters}
@@ -10,7 +10,9 @@ use Rattle.condensed_machine.specs.{Tables.IsSharedAfter, Resting.keeps_reservat
 use Rattle.outcome_laws.specs.Local.{keeps_to}
 use Rattle.live_registers.specs.Targets.{allows}
 use Rattle.condensed_machine.proofs.{Coded.codes_kept, Instructions.fits_noted, Instructions.keeps_where_none}
-use Rattle.condensed_machine.proofs.{Distinct.at_rest, Distinct.forms_kept, Noted.moves_stay}
+use Rattle.condensed_machine.specs.Losing.{AreRests}
+use Rattle.condensed_machine.proofs.{Distinct.at_rest, Distinct.forms_kept, Moving.free_behind}
+use Rattle.condensed_machine.proofs.Noted.{moves_stay, rests_stay}
 use Rattle.condensed_machine.proofs.Zero.{zero_behind, zero_rests}
 use Rattle.condensed_machine.proofs.machine.CondensedMachine.make_move.Goals as goal
 use Rattle.condensed_machine.proofs.machine.CondensedMachine.make_move.Goals.{After-number_hart, After-number_shared}
@@ -58,8 +60,8 @@ zeros : (c : After-number_hart) → HaveZero c.number_hart.new.harts.keys
 zeros c =
     let p = c.self.inside.program in
     c.number_hart.ensures.zero c.self.invariant.zero
-    (zero_rests p c.execute-executed.new.state c.come_to_rest-way.new.state c.come_to_rest-way.result
-    c.come_to_rest-way.ensures
+    (zero_rests p (not c.has_reservation_behind-is_free.result) c.execute-executed.new.state c.come_to_rest-steps.new.state c.come_to_rest-steps.result
+    c.come_to_rest-steps.ensures
     (zero_behind p c.args.from.hart c.numbered_hart.result.now c.execute-executed.new.state
     c.numbered_shared-before.result.now c.execute-executed.ensures.behind (zero_before c)))
 
@@ -68,8 +70,8 @@ rest : (c : After-number_hart) → AreAtRest c.self.inside.program.live c.self.i
 rest c =
     let p = c.self.inside.program in
     c.number_hart.ensures.rest p.live p.watched c.self.invariant.rest
-    (at_rest p c.execute-executed.new.state c.come_to_rest-way.new.state c.come_to_rest-way.result
-    c.come_to_rest-way.ensures)
+    (at_rest p (not c.has_reservation_behind-is_free.result) c.execute-executed.new.state c.come_to_rest-steps.new.state c.come_to_rest-steps.result
+    c.come_to_rest-steps.ensures)
 
 registers : (c : After-number_hart) → HaveRegisters c.number_hart.new.harts.keys
 registers c = c.number_hart.ensures.registers c.self.invariant.registers
@@ -98,6 +100,11 @@ moves_then c =
     c.self.inside.shared_states.keys c.number_shared.new.shared.keys c.number_hart.ensures.kept
     c.number_shared.ensures.kept c.self.inside.moves.entries c.self.invariant.moves
 
+rests : (c : After-number_hart) → AreRests c.self.inside.program c.number_hart.new.harts.keys c.self.inside.rests.entries
+rests c =
+    rests_stay c.self.inside.program c.self.inside.hart_states.keys c.number_hart.new.harts.keys
+    c.number_hart.ensures.kept c.self.inside.rests.entries c.self.invariant.rests
+
 pub invariant_of-self : goal.invariant_of-self
 invariant_of-self c = record {
   sound = c.self.invariant.sound;
@@ -107,6 +114,7 @@ invariant_of-self c = record {
   code = c.self.invariant.code;
   forms = c.self.invariant.forms;
   moves = moves_first (goal.at.invariant_of-self c).After-number_hart;
+  rests = rests (goal.at.invariant_of-self c).After-number_hart;
 }
 
 pub invariant_of-self-in_err-shared : goal.invariant_of-self-in_err-shared
@@ -118,6 +126,7 @@ invariant_of-self-in_err-shared c = record {
   code = codes (goal.at.invariant_of-self-in_err-shared c).After-number_shared;
   forms = forms (goal.at.invariant_of-self-in_err-shared c).After-number_shared;
   moves = moves_then (goal.at.invariant_of-self-in_err-shared c).After-number_shared;
+  rests = rests (goal.at.invariant_of-self-in_err-shared c).After-number_hart;
 }
 
 pub invariant_of-self-2 : goal.invariant_of-self-2
@@ -129,6 +138,7 @@ invariant_of-self-2 c = record {
   code = codes (goal.at.invariant_of-self-2 c).After-number_shared;
   forms = forms (goal.at.invariant_of-self-2 c).After-number_shared;
   moves = moves_then (goal.at.invariant_of-self-2 c).After-number_shared;
+  rests = rests (goal.at.invariant_of-self-2 c).After-number_hart;
 }
 
 -- ---- What it comes to
@@ -139,6 +149,7 @@ after c = record {
   hart_states = c.number_hart.new.harts.keys;
   far_harts = c.self.inside.far_harts.keys;
   shared_states = c.number_shared.new.shared.keys;
+  rows = c.self.inside.rows;
 }
 
 grows : (c : After-number_shared) → Grows (machine_of c.self.inside) (after c)
@@ -147,6 +158,7 @@ grows c = record {
   hart_states = c.number_hart.ensures.kept;
   far_harts = λ n x is. is;
   shared_states = c.number_shared.ensures.kept;
+  rows = λ n x is. is;
 }
 
 pub returns-in_err-shared-clause-grows : goal.returns-in_err-shared-clause-grows
@@ -167,7 +179,7 @@ returns-clause-is_move c =
     let e = c.execute-executed.result in
     let common = c.numbered_shared-before.result.now in
     let table = c.number_shared.new.shared.keys in
-    let keeps = keeps_reservation p.live c.come_to_rest-way.new.state in
+    let keeps = keeps_reservation p.live c.come_to_rest-steps.new.state in
     let before = shared_at c.self.inside.shared_states.keys c.args.from.shared in
     let same : before ≡ common =
     ap (λ (m : Machine). shared_at m.shared_states c.args.from.shared) c.self.view_is
@@ -181,7 +193,7 @@ returns-clause-is_move c =
       code = code_before early;
       done = e;
       behind = c.execute-executed.new.state;
-      moved = c.come_to_rest-way.new.state;
+      moved = c.come_to_rest-steps.new.state;
       executed = c.execute-executed.ensures.executed;
       is_behind = c.execute-executed.ensures.behind;
       fitting = λ setup s image inside is agrees.
@@ -190,7 +202,12 @@ returns-clause-is_move c =
           (keeps_where_none c.lacking.result
           (keeps_to (allows p.targets) e.op c.numbered_hart.result.now.pc e.effect.next) c.lacking.ensures.lacks
           c.in_default.is);
-      rests = c.come_to_rest-way.ensures;
+      free = not c.has_reservation_behind-is_free.result;
+      is_free = λ setup s image inside is agrees.
+          free_behind p.image setup s h e common c.has_reservation_behind-is_free.result
+          (c.execute-executed.ensures.executed setup s image inside is agrees) agrees
+          c.has_reservation_behind-is_free.ensures;
+      rests = c.come_to_rest-steps.ensures;
       has = c.in_ok-number.ensures.number;
       after =
           subst (λ (i : ProgramImage). IsSharedAfter i h e keeps common table c.in_ok-shared.shared)
@@ -199,3 +216,17 @@ returns-clause-is_move c =
           (subst (λ (kept : Bool). IsSharedAfter c.start.result.now.image h e kept before table c.in_ok-shared.shared)
           c.keeps_reservation-is_kept.ensures c.in_ok-shared.ensures.number));
     }
+
+-- ---- What is asked of whether it has ended a reservation
+
+pub takes-takes-requires-clause-before : goal.takes-takes-requires-clause-before
+takes-takes-requires-clause-before c =
+    let common = c.numbered_shared-before.result.now in
+    let early = (goal.at.takes-takes-requires-clause-before c).After-number_hart in
+    slice_get_within c.number_shared.new.shared.keys c.args.from.shared common
+    (c.number_shared.ensures.kept c.args.from.shared common (common_is early))
+
+pub takes-takes-requires-clause-behind : goal.takes-takes-requires-clause-behind
+takes-takes-requires-clause-behind c =
+    let numbered = c.in_ok-shared.ensures.number in
+    slice_get_within c.number_shared.new.shared.keys c.in_ok-shared.shared numbered.after numbered.has

@@ -21,6 +21,7 @@ invariant_of-self c = record {
   rest = c.self.invariant.rest;
   code = c.self.invariant.code;
   forms = c.self.invariant.forms;
+  rests = c.self.invariant.rests;
   moves = moves (goal.at.invariant_of-self c).After-insert;
 }
 
@@ -32,5 +33,6 @@ invariant_of-self-2 c = record {
   rest = c.self.invariant.rest;
   code = c.self.invariant.code;
   forms = c.self.invariant.forms;
+  rests = c.self.invariant.rests;
   moves = moves (goal.at.invariant_of-self-2 c).After-insert;
 }
