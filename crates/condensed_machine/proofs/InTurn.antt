@@ -43,7 +43,8 @@ nobody_turns (suc h) =
 pub none_behind : (ways : List ℕ) (g steps : ℕ) → ((h : ℕ) → g ≤ h → slice_index ways h ≡ 0)
     → (h : ℕ) → g + 1 ≤ h → slice_index (slice_set ways g steps) h ≡ 0
 none_behind ways g steps none h beyond =
-    let other : h ≢ g = omega (arith, beyond) in get_or-set_other ways g h steps 0 other ∙ none h (omega (arith, beyond))
+    let other : h ≢ g = omega (arith, beyond) in
+    get_or-set_other ways g h steps 0 other ∙ none h (omega (arith, beyond))
 
 pub none_yet : (h : ℕ) → slice_index no_turns h ≡ 0
 none_yet = all_zero most_harts

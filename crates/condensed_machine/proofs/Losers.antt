@@ -1,4 +1,4 @@
--- A hart that has lost its reservation follows its local steps: from the parts of the state before them to those behind.
+-- A hart that has lost its reservation follows its local steps: from the parts of the state before to those behind.
 use Rattle.std.proofs.Common.{◌≡◌, ◌≢◌, ℕ, ◌<◌, ◌≤◌, true, false, None, replicate, length, map}
 use Rattle.std.proofs.Common.{refl, sym, ap, subst, ◌∙◌, arith, inl, inr}
 use Rattle.std.specs.Prelude.{◌==◌, ◌&&◌, slice_index, slice_set, nat_lt}
@@ -80,7 +80,7 @@ module _ (p : Program) (d e : Decoded) (g steps : ℕ) (y : Hart) (inside : g < 
   other_dropped was k other lost =
       ap (λ (shared : Shared). reserved_at shared k) rested.shared
       ∙ was k (
-        ap (λ x. is_going_status (status_of p k x) && kept_of p.live (pc_of p k x)) (sym (rested.others k other)) ∙ lost
+      ap (λ x. is_going_status (status_of p k x) && kept_of p.live (pc_of p k x)) (sym (rested.others k other)) ∙ lost
       )
 
   pub rests_dropped : AreDropped p d → AreDropped p e

@@ -1,5 +1,5 @@
-//! The harts that lose their reservations by a step of another: each of them follows its local steps behind it, as its SC
-//! fails from now on, whatever comes.
+//! The harts that lose their reservations by a step of another: each of them follows its local steps behind it, as its
+//! SC fails from now on, whatever comes.
 
 ghost use Rattle.std.specs.Prelude.{◌≡◌, ◌<◌, true, IfOk, IfSome, length};
 ghost use Rattle.condensed_machine.specs.Decoded.{Knows, decoded};
@@ -55,8 +55,8 @@ impl CondensedMachine {
         Ok(Followed { state: now, others })
     }
 
-    /// Whether a hart had a reservation in the shared parts with a number, and has none in a state. Code that may not be
-    /// written is what the image has in each state.
+    /// Whether a hart had a reservation in the shared parts with a number, and has none in a state, in which code that
+    /// may not be written is what the image has.
     fn has_lost(&self, before: u32, state: State, hart: u8) -> bool
         requires before { before < length self.now.shared_states }
         requires known { Knows self.now state }
@@ -70,7 +70,8 @@ impl CondensedMachine {
             && !self.shared(state).has_reservation(hart)
     }
 
-    /// What the hart with a number comes to where it has no reservation, be it noted or made now. Errors: want of memory.
+    /// What the hart with a number comes to where it has no reservation, be it noted or made now. Errors: want of
+    /// memory.
     fn rest_of(&mut self, number: u32) -> Result<Rest, AllocError>
         requires { number < length self.old.hart_states }
         ensures grows { Grows self.old self.new }

@@ -8,8 +8,8 @@ ghost use Rattle.condensed_machine.specs.Machine.{Grows, IsSound, MayLack};
 ghost use Rattle.condensed_machine.specs.Numbering.{HasMoved};
 ghost use Rattle.condensed_machine.specs.Steps.{Steps};
 
-use crate::machine::CondensedMachine;
 use crate::losing::Followed;
+use crate::machine::CondensedMachine;
 use crate::moves::{MoveFrom, MoveTo};
 use crate::numbering::moved;
 use crate::state::State;
@@ -19,8 +19,9 @@ use searches::{Step, Unmade};
 use std::alloc::AllocError;
 
 impl CondensedMachine {
-    /// The next instruction of a hart in a state, whatever it is, and then its local steps, and those of each hart that
-    /// has lost its reservation by it; none where the hart isn't going. Errors: want of memory, or a jump by a register that the table of targets lacks.
+    /// The next instruction of a hart in a state, whatever it is, and then its local steps, and those of each hart
+    /// that has lost its reservation by it; none where the hart isn't going. Errors: want of memory, or a jump by a
+    /// register that the table of targets lacks.
     pub(crate) fn make_step(
         &mut self,
         state: State,
