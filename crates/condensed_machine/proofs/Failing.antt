@@ -4,34 +4,21 @@ use Rattle.std.proofs.Common.{◌≡◌, ℕ, Bool, true, false, Option, None, r
 use Rattle.std.specs.Prelude.{◌||◌, ◌==◌, not, if◌then◌else◌}
 use Rattle.std.proofs.lemmas.Bool.{cases_Bool, Decides.nat_tests}
 use Rattle.smt_model.specs.Words.{Op, Effect}
-use Rattle.smt_model.specs.{Setup.Setup, Exec.Computed, Nexts.is_last, Effects.effect_of, Effects.effect_by, Plain.Plain}
+use Rattle.smt_model.specs.{Setup.Setup, Exec.Computed, Nexts.is_last, Plain.Plain}
+use Rattle.smt_model.specs.Effects.{effect_of, effect_by}
 use Rattle.smt_model.specs.Kinds.{Kind, Computing, Loading, Storing, Reserving, Conditional, Atomic, kind_of}
 use Rattle.smt_model.specs.Kinds.{writes_register}
 use Rattle.smt_model.specs.Plain.{op_at_pc, computes}
 use Rattle.smt_model.specs.Reservations.{holds_word, own_reservation, reservation_after}
 use Rattle.outcome_laws.specs.{Local.is_silent, Local.lacks_reservation, Tables.is_conditional}
 use Rattle.outcome_laws.proofs.Facts.{both_of, either_left, either_right, first_of_both, one_of_two, second_of_both}
-use Rattle.outcome_laws.proofs.{Local.fails_write, Local.fails_same, Silent.silent_step}
+use Rattle.outcome_laws.proofs.{Local.fails_write, Silent.silent_step}
 use Rattle.condensed_machine.specs.Settling.{IsFree, fails}
-
--- ---- What it does
-
--- Its effect is the same, whatever memory and reservations are, so far as a hart that is free has none.
-pub effect_whatever : (op : Op) (c : Computed) (free : Bool) (e : Effect) → (is_silent op c || fails free op) ≡ true
-    → e ≡ effect_of op c 0 false
-    → (now : ℕ) (held : Bool) → (free ≡ true → held ≡ false) → e ≡ effect_of op c now held
-effect_whatever op c free e followed is now held lacks =
-    is
-    ∙ elim (one_of_two (is_silent op c) (fails free op) followed) [
-      | inl silent ↦ (silent_step op c silent).same 0 now false held
-      | inr failing ↦
-          fails_same op c 0 now false held (second_of_both free (is_conditional (kind_of op)) failing) refl
-          (lacks (first_of_both free (is_conditional (kind_of op)) failing))
-    ]
 
 -- ---- What it leaves alone
 
--- An instruction of hart h with this effect writes nothing, puts nothing out, and leaves each reservation as it is in s.
+-- An instruction of hart h with this effect writes nothing, puts nothing out, and leaves each reservation as it is
+-- in s.
 pub record LeavesAlone (s : Plain) (h : ℕ) (op : Op) (addr : ℕ) (e : Effect) : Type 0 where
   pub write : e.write ≡ None
   pub out : e.out ≡ None
