@@ -4,7 +4,8 @@ use Rattle.std.proofs.Common.{◌≡◌, ℕ, Bool, true, false, Option, None, r
 use Rattle.std.specs.Prelude.{◌||◌, ◌==◌, not, if◌then◌else◌}
 use Rattle.std.proofs.lemmas.Bool.{cases_Bool, Decides.nat_tests}
 use Rattle.smt_model.specs.Words.{Op, Effect}
-use Rattle.smt_model.specs.{Setup.Setup, Exec.Computed, Nexts.is_last, Effects.effect_of, Effects.effect_by, Plain.Plain}
+use Rattle.smt_model.specs.{Setup.Setup, Exec.Computed, Nexts.is_last, Plain.Plain}
+use Rattle.smt_model.specs.Effects.{effect_of, effect_by}
 use Rattle.smt_model.specs.Kinds.{Kind, Computing, Loading, Storing, Reserving, Conditional, Atomic, kind_of}
 use Rattle.smt_model.specs.Kinds.{writes_register}
 use Rattle.smt_model.specs.Plain.{op_at_pc, computes}
@@ -16,7 +17,8 @@ use Rattle.condensed_machine.specs.Settling.{IsFree, fails}
 
 -- ---- What it leaves alone
 
--- An instruction of hart h with this effect writes nothing, puts nothing out, and leaves each reservation as it is in s.
+-- An instruction of hart h with this effect writes nothing, puts nothing out, and leaves each reservation as it is
+-- in s.
 pub record LeavesAlone (s : Plain) (h : ℕ) (op : Op) (addr : ℕ) (e : Effect) : Type 0 where
   pub write : e.write ≡ None
   pub out : e.out ≡ None

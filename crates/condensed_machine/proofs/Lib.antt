@@ -14,3 +14,8 @@ pub mod Turns
 pub mod Distinct
 pub mod Dropped
 pub mod Growth
+pub mod InTurn
+pub mod Joining
+pub mod Losers
+pub mod LosersInTurn
+pub mod WholeStep

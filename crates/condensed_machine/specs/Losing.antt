@@ -8,8 +8,8 @@ use Rattle.condensed_machine.specs.{Executing.ComesToRest, Decoded.decoded, Deco
 use Rattle.condensed_machine.specs.Steps.{SettlesBy, turns}
 use Rattle.condensed_machine.specs.declared.{state.State.State, losing.Rest.Rest, losing.Followed.Followed}
 
--- By so many local steps the hart with a number, where it has no reservation, comes to rest as the one with another. x0 is
--- 0 there.
+-- By so many local steps the hart with a number, where it has no reservation, comes to rest as the one with another. x0
+-- is 0 there.
 pub record IsRest (p : Program) (harts : List Hart) (number : ℕ) (to : Rest) : Type 0 where
   pub here : Hart
   pub at : HasNumber harts here number

@@ -1,10 +1,10 @@
-//! The harts that lose their reservations by a step of another: each of them follows its local steps behind it, as its SC
-//! fails from now on, whatever comes.
+//! The harts that lose their reservations by a step of another: each of them follows its local steps behind it, as its
+//! SC fails from now on, whatever comes.
 
-ghost use Rattle.std.specs.Prelude.{◌≡◌, ◌<◌, IfOk, IfSome, length};
-ghost use Rattle.condensed_machine.specs.Decoded.{Knows};
+ghost use Rattle.std.specs.Prelude.{◌≡◌, ◌<◌, true, IfOk, IfSome, length};
+ghost use Rattle.condensed_machine.specs.Decoded.{Knows, decoded};
 ghost use Rattle.condensed_machine.specs.Losing.{HasFollowed, IsRestOf, IsFreeIn};
-ghost use Rattle.condensed_machine.specs.Machine.{Grows};
+ghost use Rattle.condensed_machine.specs.Machine.{Grows, HasCode};
 
 use crate::machine::CondensedMachine;
 use crate::state::State;
@@ -45,27 +45,33 @@ impl CondensedMachine {
         let mut turns = [0; HART_ROOM];
         for other in 0..self.program.harts() {
             if other != hart && self.has_lost(before, now, other) {
-                let Rest { number, steps } = self.rest_of(self.hart_number(now, other))?;
-                now = self.moved_to(now, other, number, now.shared)?;
-                turns[usize::from(other)] = steps;
+                let number = self.hart_number(now, other);
+                let rest = self.rest_of(number)?;
+                now = self.moved_to(now, other, rest.number, now.shared)?;
+                turns[usize::from(other)] = rest.steps;
             }
         }
         let others = self.rows.number(turns)?;
         Ok(Followed { state: now, others })
     }
 
-    /// Whether a hart had a reservation in the shared parts with a number, and has none in a state.
+    /// Whether a hart had a reservation in the shared parts with a number, and has none in a state, in which code that
+    /// may not be written is what the image has.
     fn has_lost(&self, before: u32, state: State, hart: u8) -> bool
         requires before { before < length self.now.shared_states }
         requires known { Knows self.now state }
         requires hart { hart < self.now.program.harts }
-        ensures { result ≡ true → IsFreeIn self.now state hart }
+        ensures free { result ≡ true → IsFreeIn self.now state hart }
+        ensures code { HasCode self.now.program.image (decoded self.now state).shared }
     {
+        // What is known of the machine's parts is known where one of them is looked at.
+        let _ = &self.program;
         self.numbered_shared(before).has_reservation(hart)
             && !self.shared(state).has_reservation(hart)
     }
 
-    /// What the hart with a number comes to where it has no reservation, be it noted or made now. Errors: want of memory.
+    /// What the hart with a number comes to where it has no reservation, be it noted or made now. Errors: want of
+    /// memory.
     fn rest_of(&mut self, number: u32) -> Result<Rest, AllocError>
         requires { number < length self.old.hart_states }
         ensures grows { Grows self.old self.new }

@@ -19,8 +19,9 @@ use searches::{Step, Unmade};
 use std::alloc::AllocError;
 
 impl CondensedMachine {
-    /// The next instruction of a hart in a state, whatever it is, and then its local steps, and those of each hart that
-    /// has lost its reservation by it; none where the hart isn't going. Errors: want of memory, or a jump by a register that the table of targets lacks.
+    /// The next instruction of a hart in a state, whatever it is, and then its local steps, and those of each hart
+    /// that has lost its reservation by it; none where the hart isn't going. Errors: want of memory, or a jump by a
+    /// register that the table of targets lacks.
     pub(crate) fn make_step(
         &mut self,
         state: State,

@@ -40,8 +40,9 @@ returns-in-Some c = λ setup tables h s has image inside holds is is_free.
     (c.compute-computed.ensures.value
     ∙ computed_same setup s start h x (sym image) is op
     (c.op_at-op.ensures.in_range start.image (byte_in start.image) code) of_op)
-    c.args.targets.now tables free x c.advance.new.self has (ap code_writable image ∙ c.requires.fixed) inside is is_free
-    (sym c.is_going.ensures ∙ c.if-not-is_going.false) (first_so followed keeps (sym c.in-Some.ensures.followed))
+    c.args.targets.now tables free x c.advance.new.self has (ap code_writable image ∙ c.requires.fixed) inside is
+    is_free (sym c.is_going.ensures ∙ c.if-not-is_going.false)
+    (first_so followed keeps (sym c.in-Some.ensures.followed))
     (second_so followed keeps (sym c.in-Some.ensures.followed))
     c.in-Some.ensures.effect
     (record {

@@ -17,7 +17,8 @@ loop-steps-preserved c = λ setup tables h s has image inside holds is is_free.
     let z = c.step_locally.new.hart in
     let free = c.args.is_free in
     let step : LeadsLocally now targets free y 1 z =
-    subst (λ (made : Bool). StepsLocally now targets free y made z) c.if-not-step_locally.false c.step_locally.ensures in
+    subst (λ (made : Bool). StepsLocally now targets free y made z) c.if-not-step_locally.false
+    c.step_locally.ensures in
     let first = c.loop-steps.invariant setup tables h s has image inside holds is is_free in
     goes_further setup tables h c.loop-steps.steps s y z first
     (step setup tables h first.there has image inside
@@ -29,8 +30,8 @@ returns c =
     let all : c.loop-steps.steps ≡ 1000 = omega arith in
     record {
       leads =
-          subst (λ (steps : ℕ). LeadsLocally c.args.start.now.image c.args.targets.now c.args.is_free c.args.hart.now steps
-          c.loop-steps.hart) all
+          subst (λ (steps : ℕ). LeadsLocally c.args.start.now.image c.args.targets.now c.args.is_free c.args.hart.now
+          steps c.loop-steps.hart) all
           c.loop-steps.invariant;
       few = omega arith;
       settled = λ fewer. absurd (omega arith);
@@ -44,7 +45,8 @@ returns-then-not-step_locally c =
     let z = c.step_locally.new.hart in
     let free = c.args.is_free in
     let stands : StepsLocally image targets free y false z =
-    subst (λ (made : Bool). StepsLocally image targets free y made z) c.if-not-step_locally.true c.step_locally.ensures in
+    subst (λ (made : Bool). StepsLocally image targets free y made z) c.if-not-step_locally.true
+    c.step_locally.ensures in
     subst (SettlesAs image targets free c.args.hart.now c.loop-steps.steps) (sym stands.1)
     (record { leads = c.loop-steps.invariant; few = omega arith; settled = λ fewer. stands.0 })
 
@@ -53,5 +55,6 @@ returns-then-writable c = record {
   leads = λ setup tables h s has image inside holds is is_free. stays_put setup tables h s c.args.hart.now is;
   few = omega arith;
   settled = λ fewer setup tables h s has image holds is.
-      stands_written setup tables c.args.is_free s h (ap code_writable image ∙ (sym c.requires.writable ∙ c.if-writable.true));
+      stands_written setup tables c.args.is_free s h
+      (ap code_writable image ∙ (sym c.requires.writable ∙ c.if-writable.true));
 }
