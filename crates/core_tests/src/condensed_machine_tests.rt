@@ -5,7 +5,7 @@ ghost use Rattle.condensed_machine.specs.Decoded.{Knows};
 ghost use Rattle.condensed_machine.specs.declared.state.State.{State};
 
 use crate::rows::holds;
-use condensed_machine::{CondensedMachine, State};
+use condensed_machine::{CondensedMachine, State, Way};
 use live_registers::{Jump, Targets};
 use searches::{Machine, Step, Unmade};
 use smt_model::Status;
@@ -47,7 +47,7 @@ const OVER: Jump = Jump {
 struct Seen {
     /// How many local steps hart 1 made at the start.
     begun: u16,
-    /// How many local steps followed the load of hart 0, and its store.
+    /// How many local steps of its own followed the load of hart 0, and its store.
     loaded: u16,
     stored: u16,
     /// Whether hart 0 has another step then.
@@ -60,7 +60,7 @@ struct Seen {
 }
 
 /// The step of a hart from a state that is known.
-fn step_of(machine: &mut CondensedMachine, state: State, hart: u8) -> Option<Step<State, u16>>
+fn step_of(machine: &mut CondensedMachine, state: State, hart: u8) -> Option<Step<State, Way>>
     requires hart { hart < machine.old.program.harts }
     requires known { Knows machine.old state }
     ensures program { machine.new.program ≡ machine.old.program }
@@ -97,8 +97,8 @@ fn counted(alloc: Global) -> Option<Seen> {
     let goes = machine.step(stored.state, 0).ok()?.is_some();
     Some(Seen {
         begun: begun.ways[1],
-        loaded: loaded.way,
-        stored: stored.way,
+        loaded: loaded.way.own,
+        stored: stored.way.own,
         goes,
         status,
         output,
@@ -131,7 +131,8 @@ fn is_made_once(machine: &mut CondensedMachine, state: State) -> Option<bool>
 {
     let first = step_of(machine, state, 0)?;
     let again = step_of(machine, state, 0)?;
-    Some(first.state == again.state && first.way == again.way)
+    let Way { own, others } = first.way;
+    Some(first.state == again.state && own == again.way.own && others == again.way.others)
 }
 
 /// Whether the step of the other hart, from the same numbers, is one of that hart, and both steps come to the same in

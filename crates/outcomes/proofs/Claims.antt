@@ -11,7 +11,7 @@ use Rattle.searches.proofs.Places.{contains_at, place_of}
 use Rattle.condensed_machine.specs.{Machine.Machine, Machine.IsSound as IsSoundProgram}
 use Rattle.condensed_machine.specs.{Decoded.Knows, Distinct.AreDistinct}
 use Rattle.condensed_machine.specs.Steps.{Steps, HasBegun}
-use Rattle.condensed_machine.specs.declared.{begun.Begun.Begun, state.State.State}
+use Rattle.condensed_machine.specs.declared.{begun.Begun.Begun, state.State.State, way.Way.Way}
 use Rattle.outcomes.specs.declared.{listed.Listed.Listed}
 use Rattle.watched_outcomes.specs.declared.{watch.Watch.Watch}
 use Rattle.watched_outcomes.specs.{Watching.AreThere}
@@ -22,7 +22,7 @@ use Rattle.outcomes.specs.Told.{told_of, order_at}
 use Rattle.outcomes.proofs.{Telling.all_told, Cores.covers_cores, Counting.reaches_many}
 use Rattle.outcomes.proofs.Sound.{part_of, each_sound}
 
-module _ (m : Machine) (begun : Begun) (graph_of : Graph State ℕ) (sound : IsSoundProgram m.program)
+module _ (m : Machine) (begun : Begun) (graph_of : Graph State Way) (sound : IsSoundProgram m.program)
     (begins : HasBegun m begun) (budget : ℕ) (extent : Extent)
     (explored : IsExplored (Steps m) m.program.harts begun.state budget graph_of extent)
     (watch : Watch) (marked : AreWatched m.program.watched watch) (there : AreThere m.program.harts watch)
@@ -34,9 +34,9 @@ module _ (m : Machine) (begun : Begun) (graph_of : Graph State ℕ) (sound : IsS
   abbrev found : Found
   found = record {
     extent = extent;
-    listed = map (told_of begun.ways n graph_of.origins) listed;
+    listed = map (told_of m.rows begun.ways n graph_of.origins) listed;
     states = length graph_of.states;
-    stuck = option_map (order_at begun.ways n graph_of.origins) stuck;
+    stuck = option_map (order_at m.rows begun.ways n graph_of.origins) stuck;
     unwritten = unwritten;
   }
 

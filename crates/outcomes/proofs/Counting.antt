@@ -8,7 +8,7 @@ use Rattle.searches.specs.{Orders.Leads, Orders.IsReachable, declared.moves.Move
 use Rattle.condensed_machine.specs.{Machine.Machine, Machine.IsSound, Machine.tables_of, Resting.is_watched}
 use Rattle.condensed_machine.specs.{Decoded.state_of, Decoded.Knows, Distinct.AreDistinct, Steps.Steps, Steps.HasBegun}
 use Rattle.condensed_machine.specs.{Steps.turns}
-use Rattle.condensed_machine.specs.declared.{begun.Begun.Begun, state.State.State}
+use Rattle.condensed_machine.specs.declared.{begun.Begun.Begun, state.State.State, way.Way.Way}
 use Rattle.outcomes.specs.{Reached.IsSameState, Reached.AreReached, Reached.ReachesMany, Told.moved}
 use Rattle.outcomes.proofs.Reaching.{reached_by}
 
@@ -39,7 +39,7 @@ module _ (setup : Setup) (m : Machine) (begun : Begun) (sound : IsSound m.progra
     alike : Alike s (state_of m t)
     knows : Knows m t
 
-  known_by : (moves : List (Move ℕ)) (s t : State) → Knows m s → Leads (Steps m) s moves t → Knows m t
+  known_by : (moves : List (Move Way)) (s t : State) → Knows m s → Leads (Steps m) s moves t → Knows m t
   known_by [] s t knows same = subst (Knows m) same knows
   known_by (move ∷ moves) s t knows leads = known_by moves leads.0 t (leads.1 setup image harts).knows leads.2
 
@@ -48,7 +48,7 @@ module _ (setup : Setup) (m : Machine) (begun : Begun) (sound : IsSound m.progra
       let reached = reached_by setup m begun sound begins image harts reach.0 t reach.1 in (
         reached.state,
         record {
-          order = turns begun.ways m.program.harts ++ moved reach.0;
+          order = turns begun.ways m.program.harts ++ moved m.rows m.program.harts reach.0;
           leads = reached.leads;
           alike = reached.alike;
           knows = known_by reach.0 begun.state t known reach.1;

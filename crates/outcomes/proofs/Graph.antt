@@ -1,6 +1,6 @@
 -- The graph of a search is enough: its ends are all there are, and the orders of its origins lead to its states.
 use Rattle.std.specs.Prelude.{◌≡◌, ◌⊎◌, ℕ, zero, suc, ◌<◌, Bool, true, false, ◌&&◌, nat_lt, if◌then◌else◌}
-use Rattle.std.specs.Prelude.{List, [], ◌∷◌, ◌++◌, replicate, length, Option, Some, None, option_map, slice_get, Contains}
+use Rattle.std.specs.Prelude.{List, [], ◌∷◌, ◌++◌, length, Option, Some, None, option_map, slice_get, Contains}
 use Rattle.std.proofs.Common.{refl, sym, ap, subst, inl, inr, arith}
 use Rattle.std.proofs.lemmas.Bool.{cases_Bool, Decides.nat_tests}
 use Rattle.std.proofs.lemmas.Option.{slice_get_within, slice_get_cases}
@@ -16,8 +16,8 @@ use Rattle.searches.specs.{Ending.CanEnd as GraphCanEnd, Ending.IsLeastStuck}
 use Rattle.searches.proofs.Places.{same_element}
 use Rattle.condensed_machine.specs.{Machine.Machine, Machine.IsSound, Machine.tables_of, Resting.is_watched}
 use Rattle.condensed_machine.specs.{Decoded.state_of}
-use Rattle.condensed_machine.specs.Steps.{Steps, MakesStep, HasBegun}
-use Rattle.condensed_machine.specs.declared.{begun.Begun.Begun, state.State.State}
+use Rattle.condensed_machine.specs.Steps.{Steps, MakesStep, HasBegun, local_steps}
+use Rattle.condensed_machine.specs.declared.{begun.Begun.Begun, state.State.State, way.Way.Way}
 use Rattle.outcomes.specs.{Told.order_at, Found.IsStuckTold}
 use Rattle.outcomes.proofs.Reaching.{step_reached, reached_by}
 
@@ -55,7 +55,7 @@ pub none_behind : (a b : Bool) → a ≡ false → (a && b) ≡ false
 none_behind true b is = absurd (grind arith)
 none_behind false b is = refl
 
-module _ (setup : Setup) (m : Machine) (begun : Begun) (found : Found State ℕ) (sound : IsSound m.program)
+module _ (setup : Setup) (m : Machine) (begun : Begun) (found : Found State Way) (sound : IsSound m.program)
     (graph : IsGraph (Steps m) m.program.harts begun.state found) (begins : HasBegun m begun)
     (image : setup.image ≡ m.program.image) (harts : setup.harts ≡ m.program.harts) where
   abbrev pub watched : ℕ → Bool
@@ -157,12 +157,12 @@ module _ (setup : Setup) (m : Machine) (begun : Begun) (found : Found State ℕ)
   abbrev Reached : Plain → List ℕ → State → Type 0
   Reached from order t = IsReached setup watched tables from order (state_of m t)
 
-  one_more : (from : Plain) (order : List ℕ) (s u : State) (h way : ℕ) → Reached from order s
-      → MakesStep setup m s h (record { state = u; way = way }) → Reached from (order ++ h ∷ replicate way h) u
+  one_more : (from : Plain) (order : List ℕ) (s u : State) (h : ℕ) (way : Way) → Reached from order s
+      → MakesStep setup m s h (record { state = u; way = way }) → Reached from (order ++ h ∷ local_steps m.rows m.program.harts h way) u
   one_more = step_reached setup m begun sound begins image harts
 
   pub reached : (k : ℕ) (t : State) → slice_get found.states k ≡ Some t
-      → Reached (start setup) (order_at begun.ways m.program.harts found.origins k) t
+      → Reached (start setup) (order_at m.rows begun.ways m.program.harts found.origins k) t
   reached k t at = reached_by setup m begun sound begins image harts (moves_at found.origins k) t (graph.moved k t at)
 
   -- Code that may not change is what the image has, in each state.
@@ -174,7 +174,7 @@ module _ (setup : Setup) (m : Machine) (begun : Begun) (found : Found State ℕ)
 
   edge_made : (k h n : ℕ) (s : State) → edge_at found k h ≡ Some n → (e : Option ℕ) → edge_at found k h ≡ e
       → IsEdge (Steps m) found s h e
-      → (u : State) × (w : ℕ) × (slice_get found.states n ≡ Some u) × MakesStep setup m s h (record { state = u; way = w })
+      → (u : State) × (w : Way) × (slice_get found.states n ≡ Some u) × MakesStep setup m s h (record { state = u; way = w })
   edge_made k h n s edge None is none = absurd (grind (arith, edge, is))
   edge_made k h n s edge (Some q) is on =
       let same : q ≡ n = cc in
@@ -189,7 +189,7 @@ module _ (setup : Setup) (m : Machine) (begun : Begun) (found : Found State ℕ)
   by_way from (h ∷ way) k q order s t at last so_far follows =
       let below : h < m.program.harts = subst (λ n. h < n) graph.all_harts follows.1 in
       let on = edge_made k h follows.0 s follows.2 (edge_at found k h) refl (graph.along k h s at below) in
-      by_way from way follows.0 q (order ++ h ∷ replicate on.1 h) on.0 t on.2 last
+      by_way from way follows.0 q (order ++ h ∷ local_steps m.rows m.program.harts h on.1) on.0 t on.2 last
       (one_more from order s on.0 h on.1 so_far on.3) follows.3
 
   can_end : (k : ℕ) (s : State) → slice_get found.states k ≡ Some s → GraphCanEnd found k → CanEnd setup (state_of m s)
@@ -253,7 +253,7 @@ module _ (setup : Setup) (m : Machine) (begun : Begun) (found : Found State ℕ)
               ]
 
   pub stuck_told : (stuck : Option ℕ) → IsLeastStuck found stuck
-      → IsStuckTold setup (option_map (order_at begun.ways m.program.harts found.origins) stuck)
+      → IsStuckTold setup (option_map (order_at m.rows begun.ways m.program.harts found.origins) stuck)
   stuck_told None each =
       each_can_end setup watched tables good visited enough 0 (start setup) (starts_as_coded setup tables) start_settles
       (λ a way. by a way (state_at way.place a way.at))
@@ -266,7 +266,7 @@ module _ (setup : Setup) (m : Machine) (begun : Begun) (found : Found State ℕ)
   stuck_told (Some p) least = by (slice_get found.states p) refl
     where
       by : (o : Option State) → slice_get found.states p ≡ o
-          → IsStuckTold setup (Some (order_at begun.ways m.program.harts found.origins p))
+          → IsStuckTold setup (Some (order_at m.rows begun.ways m.program.harts found.origins p))
       by None is = absurd (not_there found.states p is least.0)
       by (Some t) is =
           let z = reached p t is in (

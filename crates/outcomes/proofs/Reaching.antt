@@ -1,5 +1,5 @@
 -- The moves of a search lead to its states, and to ends where it lists them, be they all or some.
-use Rattle.std.specs.Prelude.{◌≡◌, ◌⊎◌, ℕ, ◌<◌, Bool, true, false, ◌&&◌, nat_lt, List, [], ◌∷◌, ◌++◌, replicate, Some}
+use Rattle.std.specs.Prelude.{◌≡◌, ◌⊎◌, ℕ, ◌<◌, Bool, true, false, ◌&&◌, nat_lt, List, [], ◌∷◌, ◌++◌, Some}
 use Rattle.std.specs.Prelude.{slice_get, Contains}
 use Rattle.std.proofs.Common.{refl, sym, subst, inl, inr, arith}
 use Rattle.std.proofs.lemmas.Bool.{cases_Bool, Decides.nat_tests}
@@ -15,8 +15,8 @@ use Rattle.searches.specs.declared.{moves.Move.Move}
 use Rattle.searches.proofs.Places.{same_element}
 use Rattle.condensed_machine.specs.{Machine.Machine, Machine.IsSound, Machine.tables_of, Resting.is_watched}
 use Rattle.condensed_machine.specs.{Decoded.state_of}
-use Rattle.condensed_machine.specs.Steps.{Steps, MakesStep, HasBegun, turns}
-use Rattle.condensed_machine.specs.declared.{begun.Begun.Begun, state.State.State}
+use Rattle.condensed_machine.specs.Steps.{Steps, MakesStep, HasBegun, turns, local_steps}
+use Rattle.condensed_machine.specs.declared.{begun.Begun.Begun, state.State.State, way.Way.Way}
 use Rattle.outcomes.specs.{Told.moved, Told.order_at}
 
 none_behind : (a b : Bool) → a ≡ false → (a && b) ≡ false
@@ -37,21 +37,25 @@ module _ (setup : Setup) (m : Machine) (begun : Begun) (sound : IsSound m.progra
   abbrev Reached : Plain → List ℕ → State → Type 0
   Reached from order t = IsReached setup watched tables from order (state_of m t)
 
-  pub step_reached : (from : Plain) (order : List ℕ) (s u : State) (h way : ℕ) → Reached from order s
-      → MakesStep setup m s h (record { state = u; way = way }) → Reached from (order ++ h ∷ replicate way h) u
+  -- Hart h's turn, and the local steps behind it.
+  abbrev pub step_by : ℕ → Way → List ℕ
+  step_by h way = h ∷ local_steps m.rows m.program.harts h way
+
+  pub step_reached : (from : Plain) (order : List ℕ) (s u : State) (h : ℕ) (way : Way) → Reached from order s
+      → MakesStep setup m s h (record { state = u; way = way }) → Reached from (order ++ step_by h way) u
   step_reached from order s u h way reached made =
       subst (λ o. Reached from (order ++ h ∷ o) u) made.leads.by
       (what_settles_is_reached setup watched tables good from order (state_of m s) (state_of m u) h reached made.can
       made.fits made.leads.settles)
 
-  by_moves : (from : Plain) (moves : List (Move ℕ)) (order : List ℕ) (s t : State) → Reached from order s
-      → Leads (Steps m) s moves t → Reached from (order ++ moved moves) t
+  by_moves : (from : Plain) (moves : List (Move Way)) (order : List ℕ) (s t : State) → Reached from order s
+      → Leads (Steps m) s moves t → Reached from (order ++ moved m.rows m.program.harts moves) t
   by_moves from [] order s t reached same =
       subst (λ o. Reached from o t) (sym (append-nil order)) (subst (Reached from order) same reached)
   by_moves from (move ∷ moves) order s t reached leads =
       let one = step_reached from order s leads.0 move.hart move.way reached (leads.1 setup image harts) in
-      subst (λ o. Reached from o t) (append_assoc order (move.hart ∷ replicate move.way move.hart) (moved moves))
-      (by_moves from moves (order ++ move.hart ∷ replicate move.way move.hart) leads.0 t one leads.2)
+      subst (λ o. Reached from o t) (append_assoc order (step_by move.hart move.way) (moved m.rows m.program.harts moves))
+      (by_moves from moves (order ++ step_by move.hart move.way) leads.0 t one leads.2)
 
   start_reached : Reached (start setup) (turns begun.ways m.program.harts) begun.state
   start_reached =
@@ -66,16 +70,16 @@ module _ (setup : Setup) (m : Machine) (begun : Begun) (sound : IsSound m.progra
         alike = settles.alike;
       }
 
-  pub reached_by : (moves : List (Move ℕ)) (t : State) → Leads (Steps m) begun.state moves t
-      → Reached (start setup) (turns begun.ways m.program.harts ++ moved moves) t
+  pub reached_by : (moves : List (Move Way)) (t : State) → Leads (Steps m) begun.state moves t
+      → Reached (start setup) (turns begun.ways m.program.harts ++ moved m.rows m.program.harts moves) t
   reached_by moves t leads =
       by_moves (start setup) moves (turns begun.ways m.program.harts) begun.state t start_reached leads
 
   -- ---- Of a part
 
-  module _ (found : Found State ℕ) (part : IsPart (Steps m) m.program.harts begun.state found) where
+  module _ (found : Found State Way) (part : IsPart (Steps m) m.program.harts begun.state found) where
     pub part_reached : (k : ℕ) (t : State) → slice_get found.states k ≡ Some t
-        → Reached (start setup) (order_at begun.ways m.program.harts found.origins k) t
+        → Reached (start setup) (order_at m.rows begun.ways m.program.harts found.origins k) t
     part_reached k t at = reached_by (moves_at found.origins k) t (part.moved k t at)
 
     pub part_end : (k : ℕ) (t : State) → slice_get found.states k ≡ Some t → Contains found.ends k

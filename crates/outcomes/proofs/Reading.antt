@@ -10,7 +10,7 @@ use Rattle.outcomes.specs.Told.{found_of, told_of, order_at, order_listed, IsIns
 module _ (a : Inside) (now : Found) (index : ℕ) (l : Listed) (view : found_of a ≡ now)
     (inside : index < length now.listed) (is : l ≡ slice_index_or a.listed.items index l) where
   abbrev told : Listed → Told
-  told = told_of a.ways a.harts a.search.origins
+  told = told_of a.rows a.ways a.harts a.search.origins
 
   within : index < length a.listed.items
   within =
@@ -24,7 +24,7 @@ module _ (a : Inside) (now : Found) (index : ℕ) (l : Listed) (view : found_of 
   pub its_place_inside : IsInside a → l.place < length a.search.states
   its_place_inside so = so.places l (index, within, sym is)
 
-  pub listed_order : order_listed now.listed index ≡ Some (order_at a.ways a.harts a.search.origins l.place)
+  pub listed_order : order_listed now.listed index ≡ Some (order_at a.rows a.ways a.harts a.search.origins l.place)
   listed_order =
       ap (λ (f : Found). order_listed f.listed index) (sym view)
       ∙ (ap (option_map (λ (t : Told). t.order)) (slice_get-map told a.listed.items index)

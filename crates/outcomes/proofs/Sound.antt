@@ -12,7 +12,7 @@ use Rattle.searches.specs.Found.{IsExplored, IsToldFor, IsEndAt}
 use Rattle.searches.proofs.Places.{element_at}
 use Rattle.condensed_machine.specs.{Machine.Machine, Machine.IsSound as IsSoundProgram, Decoded.state_of}
 use Rattle.condensed_machine.specs.Steps.{Steps, HasBegun}
-use Rattle.condensed_machine.specs.declared.{begun.Begun.Begun, state.State.State}
+use Rattle.condensed_machine.specs.declared.{begun.Begun.Begun, state.State.State, way.Way.Way}
 use Rattle.outcomes.specs.declared.{listed.Listed.Listed}
 use Rattle.watched_outcomes.specs.declared.{watch.Watch.Watch}
 use Rattle.outcomes.specs.{Refusals.AreWatched}
@@ -61,7 +61,7 @@ part_of Steps harts start budget found First is = is
 
 module _ (setup : Setup) (m : Machine) (begun : Begun) (sound : IsSoundProgram m.program) (begins : HasBegun m begun)
     (image : setup.image ≡ m.program.image) (harts : setup.harts ≡ m.program.harts)
-    (found : Graph State ℕ) (part : IsPart (Steps m) m.program.harts begun.state found)
+    (found : Graph State Way) (part : IsPart (Steps m) m.program.harts begun.state found)
     (watch : Watch) (marked : AreWatched m.program.watched watch) (there : AreThere m.program.harts watch)
     (listed : List Listed)
     (each : (l : Listed) → Contains listed l → IsOfEnd m watch found.states found.ends l) where
@@ -69,7 +69,7 @@ module _ (setup : Setup) (m : Machine) (begun : Begun) (sound : IsSoundProgram m
   same_harts s = ap (λ n. ending_of n watch s) harts
 
   ends_so : (l : Listed) → IsOfEnd m watch found.states found.ends l
-      → EndsSo setup watch (order_at begun.ways m.program.harts found.origins l.place) l.outcome
+      → EndsSo setup watch (order_at m.rows begun.ways m.program.harts found.origins l.place) l.outcome
   ends_so l end =
       let z = part_reached setup m begun sound begins image harts found part l.place end.state end.at in
       record {
@@ -86,26 +86,26 @@ module _ (setup : Setup) (m : Machine) (begun : Begun) (sound : IsSoundProgram m
             ∙ sym (same_harts z.state));
       }
 
-  pub sound_told : (t : Told) → Contains (map (told_of begun.ways m.program.harts found.origins) listed) t
+  pub sound_told : (t : Told) → Contains (map (told_of m.rows begun.ways m.program.harts found.origins) listed) t
       → EndsSo setup watch t.order t.ending
   sound_told t c =
-      let from = mapped_from (told_of begun.ways m.program.harts found.origins) listed t c in
+      let from = mapped_from (told_of m.rows begun.ways m.program.harts found.origins) listed t c in
       subst (λ (t : Told). EndsSo setup watch t.order t.ending) from.2 (ends_so from.0 (each from.0 from.1))
 
 -- It is so for whoever counts the harts alike.
 pub each_sound : (setup : Setup) (m : Machine) (begun : Begun) → IsSoundProgram m.program → HasBegun m begun
-    → setup.image ≡ m.program.image → setup.harts ≡ m.program.harts → (found : Graph State ℕ)
+    → setup.image ≡ m.program.image → setup.harts ≡ m.program.harts → (found : Graph State Way)
     → IsPart (Steps m) m.program.harts begun.state found → (watch : Watch) → AreWatched m.program.watched watch
     → AreThere m.program.harts watch → (listed : List Listed)
     → ((l : Listed) → Contains listed l → IsOfEnd m watch found.states found.ends l) → (n : ℕ) → n ≡ m.program.harts
-    → (t : Told) → Contains (map (told_of begun.ways n found.origins) listed) t → EndsSo setup watch t.order t.ending
+    → (t : Told) → Contains (map (told_of m.rows begun.ways n found.origins) listed) t → EndsSo setup watch t.order t.ending
 each_sound setup m begun sound begins image harts found part watch marked there listed each n same =
-    subst (λ k. (t : Told) → Contains (map (told_of begun.ways k found.origins) listed) t
+    subst (λ k. (t : Told) → Contains (map (told_of m.rows begun.ways k found.origins) listed) t
     → EndsSo setup watch t.order t.ending) (sym same)
     (sound_told setup m begun sound begins image harts found part watch marked there listed each)
 
 -- The end that is asked for is listed.
-pub asked_told : (Asks : Ending → Type 0) (m : Machine) (watch : Watch) (found : Graph State ℕ) (extent : Extent)
+pub asked_told : (Asks : Ending → Type 0) (m : Machine) (watch : Watch) (found : Graph State Way) (extent : Extent)
     (listed : List Listed) → AreOutcomes m watch found.states found.ends listed
     → IsToldFor (IsAskedAt Asks m watch) found extent → (tell : Listed → Told)
     → ((l : Listed) → (tell l).ending ≡ l.outcome) → extent ≡ First

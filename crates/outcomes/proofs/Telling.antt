@@ -9,7 +9,7 @@ use Rattle.searches.specs.declared.extent.Extent.{Extent}
 use Rattle.searches.specs.{Found.Found as Graph, Found.IsGraph, Ending.IsLeastStuck}
 use Rattle.condensed_machine.specs.{Machine.Machine, Machine.IsSound as IsSoundProgram, Decoded.state_of}
 use Rattle.condensed_machine.specs.Steps.{Steps, HasBegun}
-use Rattle.condensed_machine.specs.declared.{begun.Begun.Begun, state.State.State}
+use Rattle.condensed_machine.specs.declared.{begun.Begun.Begun, state.State.State, way.Way.Way}
 use Rattle.outcomes.specs.declared.{listed.Listed.Listed}
 use Rattle.watched_outcomes.specs.declared.{watch.Watch.Watch}
 use Rattle.outcomes.specs.{Lists.HasEnding, Refusals.AreWatched}
@@ -22,7 +22,7 @@ use Rattle.outcomes.proofs.Graph.{watched, tables, good, visited, enough, start_
 use Rattle.outcomes.proofs.Graph.{stuck_told}
 use Rattle.outcomes.proofs.Sound.{sound_told, part_of_graph}
 
-module _ (setup : Setup) (m : Machine) (begun : Begun) (graph_of : Graph State ℕ) (sound : IsSoundProgram m.program)
+module _ (setup : Setup) (m : Machine) (begun : Begun) (graph_of : Graph State Way) (sound : IsSoundProgram m.program)
     (graph : IsGraph (Steps m) m.program.harts begun.state graph_of) (begins : HasBegun m begun)
     (image : setup.image ≡ m.program.image) (harts : setup.harts ≡ m.program.harts)
     (watch : Watch) (marked : AreWatched m.program.watched watch) (there : AreThere m.program.harts watch)
@@ -33,9 +33,9 @@ module _ (setup : Setup) (m : Machine) (begun : Begun) (graph_of : Graph State �
   abbrev found : Found
   found = record {
     extent = extent;
-    listed = map (told_of begun.ways m.program.harts graph_of.origins) listed;
+    listed = map (told_of m.rows begun.ways m.program.harts graph_of.origins) listed;
     states = length graph_of.states;
-    stuck = option_map (order_at begun.ways m.program.harts graph_of.origins) stuck;
+    stuck = option_map (order_at m.rows begun.ways m.program.harts graph_of.origins) stuck;
     unwritten = unwritten;
   }
 
@@ -44,8 +44,8 @@ module _ (setup : Setup) (m : Machine) (begun : Begun) (graph_of : Graph State �
 
   told_outcome : (e : Ending) → HasEnding listed e → HasOutcome found e
   told_outcome e has = (
-    told_of begun.ways m.program.harts graph_of.origins has.0,
-    contains_map (told_of begun.ways m.program.harts graph_of.origins) listed has.0 has.1,
+    told_of m.rows begun.ways m.program.harts graph_of.origins has.0,
+    contains_map (told_of m.rows begun.ways m.program.harts graph_of.origins) listed has.0 has.1,
     has.2,
   )
 
@@ -87,7 +87,7 @@ module _ (setup : Setup) (m : Machine) (begun : Begun) (graph_of : Graph State �
   }
 
 -- It is so for whoever counts the harts alike.
-pub all_told : (setup : Setup) (m : Machine) (begun : Begun) (graph_of : Graph State ℕ) → IsSoundProgram m.program
+pub all_told : (setup : Setup) (m : Machine) (begun : Begun) (graph_of : Graph State Way) → IsSoundProgram m.program
     → IsGraph (Steps m) m.program.harts begun.state graph_of → HasBegun m begun → setup.image ≡ m.program.image
     → setup.harts ≡ m.program.harts → (watch : Watch) → AreWatched m.program.watched watch
     → AreThere m.program.harts watch → (listed : List Listed)
@@ -97,18 +97,18 @@ pub all_told : (setup : Setup) (m : Machine) (begun : Begun) (graph_of : Graph S
     → (n : ℕ) → n ≡ m.program.harts
     → IsExactList setup watch (record {
       extent = extent;
-      listed = map (told_of begun.ways n graph_of.origins) listed;
+      listed = map (told_of m.rows begun.ways n graph_of.origins) listed;
       states = length graph_of.states;
-      stuck = option_map (order_at begun.ways n graph_of.origins) stuck;
+      stuck = option_map (order_at m.rows begun.ways n graph_of.origins) stuck;
       unwritten = unwritten;
     })
 all_told setup m begun graph_of sound graph begins image harts watch marked there listed outcomes stuck least unwritten
     are different extent n same =
     subst (λ k. IsExactList setup watch (record {
       extent = extent;
-      listed = map (told_of begun.ways k graph_of.origins) listed;
+      listed = map (told_of m.rows begun.ways k graph_of.origins) listed;
       states = length graph_of.states;
-      stuck = option_map (order_at begun.ways k graph_of.origins) stuck;
+      stuck = option_map (order_at m.rows begun.ways k graph_of.origins) stuck;
       unwritten = unwritten;
     })) (sym same)
     (are_all setup m begun graph_of sound graph begins image harts watch marked there listed outcomes stuck least

@@ -14,7 +14,7 @@ use Rattle.outcome_laws.proofs.{Known.starts_as_coded, Seen.each_memory_is_visit
 use Rattle.searches.specs.{Found.Found as Graph, Found.IsGraph}
 use Rattle.condensed_machine.specs.{Machine.Machine, Machine.IsSound as IsSoundProgram, Decoded.state_of}
 use Rattle.condensed_machine.specs.Steps.{Steps, HasBegun}
-use Rattle.condensed_machine.specs.declared.{begun.Begun.Begun, state.State.State}
+use Rattle.condensed_machine.specs.declared.{begun.Begun.Begun, state.State.State, way.Way.Way}
 use Rattle.watched_outcomes.specs.declared.{watch.Watch.Watch, watch.WatchedBytes.WatchedBytes}
 use Rattle.watched_outcomes.specs.{Endings.word_in, Watching.bytes_of}
 use Rattle.outcomes.specs.{Collected.is_zero, Collected.is_unwritten, Found.IsUnwrittenTold, Found.AreUnwrittenTold}
@@ -76,7 +76,7 @@ differs (suc n) fails none = omega (arith, none)
 
 -- ---- Wherever an order leads
 
-module _ (setup : Setup) (m : Machine) (begun : Begun) (graph_of : Graph State ℕ) (sound : IsSoundProgram m.program)
+module _ (setup : Setup) (m : Machine) (begun : Begun) (graph_of : Graph State Way) (sound : IsSoundProgram m.program)
     (graph : IsGraph (Steps m) m.program.harts begun.state graph_of) (begins : HasBegun m begun)
     (image : setup.image ≡ m.program.image) (harts : setup.harts ≡ m.program.harts) where
   zero_throughout : (w : WatchedBytes) → is_unwritten m graph_of.states w ≡ true → IsUnwrittenTold setup w true
@@ -101,7 +101,7 @@ module _ (setup : Setup) (m : Machine) (begun : Begun) (graph_of : Graph State �
       let same : word_in z.state w ≡ word_in (state_of m one.1) w =
       ap (λ (b : ℕ → ℕ). number_at b w.address (bytes_of w.width)) (fun_ext z.alike.bytes) in
       let fails : (word_in (state_of m one.1) w == 0) ≡ false = one.3 in (
-        order_at begun.ways m.program.harts graph_of.origins one.0,
+        order_at m.rows begun.ways m.program.harts graph_of.origins one.0,
         z.state,
         z.leads,
         λ none. differs (word_in (state_of m one.1) w) fails (sym same ∙ none),

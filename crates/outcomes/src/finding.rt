@@ -268,18 +268,18 @@ fn outcomes_of<U: Until>(
     until: &U,
     alloc: Global,
 ) -> Result<Outcomes, OutcomesRefused>
-    requires sound { IsSound machine.now.program }
-    requires watched { AreWatched machine.now.program.watched watch.now }
-    requires registers { AreThere machine.now.program.harts watch.now }
-    requires words { AreWords machine.now.program.image watch.now }
-    requires begun { HasBegun machine.now begun }
-    requires explored { IsExplored (Steps machine.now) machine.now.program.harts begun.state budget
+    requires sound { IsSound machine.program }
+    requires watched { AreWatched machine.program.watched watch.now }
+    requires registers { AreThere machine.program.harts watch.now }
+    requires words { AreWords machine.program.image watch.now }
+    requires begun { HasBegun machine begun }
+    requires explored { IsExplored (Steps machine) machine.program.harts begun.state budget
         explored.search explored.extent }
-    requires known { (s : State) → Contains explored.search.states s → Knows machine.now s }
-    requires asked { IsToldFor (IsAskedAt (U.Asks until.now) machine.now watch.now) explored.search
+    requires known { (s : State) → Contains explored.search.states s → Knows machine s }
+    requires asked { IsToldFor (IsAskedAt (U.Asks until.now) machine watch.now) explored.search
         explored.extent }
     ensures found { IfOk result
-        (IsListing machine.now.program.image machine.now.program.harts watch.now budget) }
+        (IsListing machine.program.image machine.program.harts watch.now budget) }
     ensures once { IfOk result IsOnce }
     ensures asked { IfOk result (IsAskedFor (U.Asks until.now)) }
     ensures refused { IfErr result (λ why. why ≡ Memory) }

@@ -1,9 +1,8 @@
 ghost use Rattle.std.specs.Prelude.{◌≡◌, ◌<◌, ◌≤◌, ◌++◌, IfOk, OnOk, Some, length, replicate, option_map};
 ghost use Rattle.std.specs.Prelude.{false, slice_index_or};
-ghost use Rattle.numbers.specs.Sizes.{most_harts};
 ghost use Rattle.searches.specs.declared.extent.Extent.TheVariants.{Whole};
 ghost use Rattle.condensed_machine.specs.Steps.{turns};
-ghost use Rattle.outcomes.specs.Told.{ending_listed, order_listed, moved};
+ghost use Rattle.outcomes.specs.Told.{ending_listed, order_listed, order_at, moved};
 
 use crate::listed::Listed;
 use condensed_machine::{Rows, State, Way};
@@ -81,7 +80,14 @@ impl Outcomes {
         ensures { IfOk result (λ order. order_listed self.now.listed index ≡ Some order.items) }
     {
         let place = self.listed[index].place;
-        let order = self.order_to(place, alloc)?;
+        let order = order_to(
+            self.harts,
+            &self.ways,
+            &self.rows,
+            &self.search,
+            place,
+            alloc,
+        )?;
         Ok(order)
     }
 
@@ -93,7 +99,14 @@ impl Outcomes {
     {
         match self.stuck {
             Some(place) => {
-                let order = self.order_to(place, alloc)?;
+                let order = order_to(
+                    self.harts,
+                    &self.ways,
+                    &self.rows,
+                    &self.search,
+                    place,
+                    alloc,
+                )?;
                 Ok(Some(order))
             }
             None => Ok(None),
@@ -111,28 +124,26 @@ impl Outcomes {
             None => false,
         }
     }
-
-    /// The order of harts by which the state at a place was found. Errors: want of memory.
-    fn order_to(&self, place: u32, alloc: Global) -> Result<Vec<u8>, AllocError> {
-        let moves = self.search.moves_to(place, alloc)?;
-        order_of(self.harts, &self.ways, &self.rows, moves.as_slice(), alloc)
-    }
 }
 
-/// The order of harts that moves come to: the local steps of each hart in turn, and then the moves. Errors: want of
-/// memory.
-fn order_of(
+/// The order of harts by which the state at a place was found: the local steps of each hart in turn, and then
+/// the moves. Errors: want of memory.
+fn order_to(
     harts: u8,
     ways: &[u16; HART_ROOM],
     rows: &Rows,
-    moves: &[Move<Way>],
+    search: &Search<State, Way>,
+    place: u32,
     alloc: Global,
 ) -> Result<Vec<u8>, AllocError>
-    ensures { IfOk result (λ order. order.items ≡ turns ways.now harts ++ moved rows.now harts moves.now) }
+    requires { place < length search.now.states }
+    ensures { IfOk result (λ order. order.items
+        ≡ order_at rows.now ways.now harts search.now.origins place) }
 {
     let mut order = Vec::new(alloc);
     push_row(&mut order, harts, ways)?;
-    push_moves(&mut order, harts, rows, moves)?;
+    let moves = search.moves_to(place, alloc)?;
+    push_moves(&mut order, harts, rows, moves.as_slice())?;
     Ok(order)
 }
 
@@ -159,9 +170,8 @@ fn push_row(order: &mut Vec<u8>, harts: u8, row: &[u16]) -> Result<(), AllocErro
     ensures { OnOk result (order.new.items ≡ order.old.items ++ turns row.now harts) }
 {
     for hart in 0..harts {
-        if let Some(turns) = row.get(usize::from(hart)) {
-            push_turns(order, hart, *turns)?;
-        }
+        let turns = row.get(usize::from(hart)).copied().unwrap_or(0);
+        push_turns(order, hart, turns)?;
     }
     Ok(())
 }
