@@ -5,9 +5,11 @@ use Rattle.elf_image.specs.Image.{ProgramImage}
 use Rattle.elf_image.specs.{declared.refusal.LoadRefused.LoadRefused, Refusal.reason_number}
 use Rattle.elf_image.specs.{Checks.Passes, Checks.IsLoadRefusal, Loaded.IsImageOf}
 use Rattle.sim_inputs.specs.{declared.settings.Settings.Settings, Configuration.IsConfiguration}
+use Rattle.sim_inputs.specs.Configuration.{with_harts}
 use Rattle.sim_inputs.specs.declared.explained.fault.ConfigFault.{ConfigFault}
 use Rattle.sim_inputs.specs.declared.explained.fault.ConfigFault.TheVariants as faults
 use Rattle.explanations.specs.{declared.config.ConfigExplained.ConfigExplained}
+use Rattle.explanations.specs.{ConfigText.accepted_config}
 use Rattle.explanations.specs.{declared.image.ImageExplained.ImageExplained}
 
 -- A text begins with another one.
@@ -24,10 +26,11 @@ abbrev pub IsTold : ConfigFault → Type 0
 IsTold faults.Memory = ⊥
 IsTold fault = Unit {0}
 
--- What is said of a configuration: that it is accepted, where it makes settings, and else that it is
--- refused.
-pub record IsConfigExplained (text : List ℕ) (said : ConfigExplained) : Type 0 where
+-- What is said of a configuration: that it is accepted, where it makes settings, and which these are, with so many harts
+-- where that is given; and else that it is refused.
+pub record IsConfigExplained (harts : Option ℕ) (text : List ℕ) (said : ConfigExplained) : Type 0 where
   pub accepted : IfSome said.settings (IsConfiguration text)
+  pub told : IfSome said.settings (λ settings. said.text.items ≡ accepted_config (with_harts harts settings))
   pub refused : IfNone said.settings ((settings : Settings) → IsConfiguration text settings → ⊥)
   pub begins : Begins (config_head said.settings) said.text.items
 
