@@ -5,7 +5,6 @@ use Rattle.explanations.proofs.config.explain_config.Goals as goal
 pub returns-in_ok-text-in-Err : goal.returns-in_ok-text-in-Err
 returns-in_ok-text-in-Err c = record {
   accepted = tt;
-  told = tt;
   refused = refused c.args.text.now c.in-Err.fault c.in-Err.ensures.refused (search rules);
-  begins = search rules;
+  told = search rules;
 }
