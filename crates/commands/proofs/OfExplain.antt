@@ -8,7 +8,8 @@ use Rattle.std.specs.Io.KnownBytes.{Appends}
 use Rattle.text_fields.specs.{Printing.Prints}
 use Rattle.elf_image.specs.{declared.refusal.LoadRefused.LoadRefused, Refusal.reason_number, Loaded.IsImageOf}
 use Rattle.elf_image.specs.Image.{ProgramImage}
-use Rattle.explanations.specs.Explained.{Begins, IsRefusedBy, IsAccepted, refused_line, config_head, image_head}
+use Rattle.explanations.specs.Explained.{Begins, IsRefusedBy, IsAccepted, IsConfigTold, IsImageTold, refused_line}
+use Rattle.explanations.specs.ConfigText.{accepted_config}
 use Rattle.sim_inputs.specs.{declared.settings.Settings.Settings}
 use Rattle.sim_inputs.specs.{Configuration.IsConfiguration, Configuration.with_harts, declared.line.Beside.Beside}
 use Rattle.sim_inputs.specs.declared.line.Beside.TheVariants as beside
@@ -28,7 +29,7 @@ use Rattle.command_parts.specs.declared.refused.Unread.TheVariants as unread
 use Rattle.command_parts.specs.Refused.{refusal_of, IsFirstFailed, AreAccepted, IsImageRefusal, PassesAll}
 use Rattle.command_parts.specs.Inputs.{Read, OfProgram, BehindFile, IsConfigRefusal}
 use Rattle.commands.specs.Explain.{IsExplainRefusal, IsExplanationOf, IsWritingRefusal, ExplainComesTo}
-use Rattle.commands.specs.Explain.{Tells, PrintsSome}
+use Rattle.commands.specs.Explain.{TellsBoth, TellsCheck, PrintsSome}
 use Rattle.commands.specs.Explain.{IsBesideFault}
 use Rattle.commands.specs.Perform.{ExplainLineComesTo, IsExplainLineRefusal, HasToldBeside}
 use Rattle.core_commands.specs.Judgement.{IsJudgementRefusal}
@@ -44,16 +45,23 @@ appended (Some xs) (Some ys) None a b first second = absurd second
 appended (Some xs) (Some ys) (Some zs) a b first second =
     second ∙ ap (λ us. us ++ b) first ∙ append_assoc xs a b
 
-joined : (config settings image rest : List ℕ)
-    → (config ++ settings) ++ (image ++ rest) ≡ config ++ (settings ++ (image ++ rest))
-joined config settings image rest = append_assoc config settings (image ++ rest)
-
--- the lines of a configuration, and then those of an image
-pub prints_both : (old mid new : Option (List ℕ)) (config image : List ℕ) → Prints old mid (Begins config)
-    → Prints mid new (Begins image) → Prints old new (Tells config image)
-prints_both old mid new config image (a, (settings, is_a), first) (b, (rest, is_b), second) = (
+-- what is said of a configuration, and then of an image
+pub prints_both : (old mid new : Option (List ℕ)) (harts : Option ℕ) (settings : Settings) (file : List ℕ)
+    → Prints old mid (IsConfigTold harts (Some settings)) → Prints mid new (IsAccepted file settings.ram)
+    → Prints old new (TellsBoth harts settings file)
+prints_both old mid new harts settings file (a, is_a, first) (b, is_b, second) = (
   a ++ b,
-  (settings, rest, rw (is_a, is_b) (joined config settings image rest)),
+  record { said = b; accepted = is_b; whole = ap (λ t. t ++ b) is_a },
+  appended old mid new a b first second,
+)
+
+-- or the line of a check that it fails
+pub prints_check : (old mid new : Option (List ℕ)) (harts : Option ℕ) (settings : Settings) (number : ℕ)
+    → Prints old mid (IsConfigTold harts (Some settings)) → Prints mid new (Begins (refused_line number))
+    → Prints old new (TellsCheck harts settings number)
+prints_check old mid new harts settings number (a, is_a, first) (b, (rest, is_b), second) = (
+  a ++ b,
+  (rest, ap (λ t. t ++ b) is_a ∙ ap (λ t. accepted_config (with_harts harts settings) ++ t) is_b),
   appended old mid new a b first second,
 )
 
@@ -77,28 +85,29 @@ nothing (Some xs) = sym (append-nil xs)
 pub prints_nothing : (old : Option (List ℕ)) → PrintsSome old old
 prints_nothing old = ([], tt, nothing old)
 
--- the line of a configuration, and of an image, once it is known which it is
-pub accepted_line : (found : Option Settings) (settings : Settings) (old mid : Option (List ℕ)) → found ≡ Some settings
-    → Prints old mid (Begins (config_head found)) → Prints old mid (Begins (codes "config accepted\n"))
-accepted_line found settings old mid is told =
-    subst (λ (f : Option Settings). Prints old mid (Begins (config_head f))) is told
+-- what is said of a configuration, and of an image, once it is known which it is
+pub accepted_line : (harts : Option ℕ) (found : Option Settings) (settings : Settings) (old mid : Option (List ℕ))
+    → found ≡ Some settings → Prints old mid (IsConfigTold harts found)
+    → Prints old mid (IsConfigTold harts (Some settings))
+accepted_line harts found settings old mid is told =
+    subst (λ (f : Option Settings). Prints old mid (IsConfigTold harts f)) is told
 
-pub refused_config_line : (found : Option Settings) (old mid : Option (List ℕ)) → found ≡ None
-    → Prints old mid (Begins (config_head found)) → Prints old mid (Begins (codes "config refused\n"))
-refused_config_line found old mid is told =
-    subst (λ (f : Option Settings). Prints old mid (Begins (config_head f))) is told
+pub refused_config_line : (harts : Option ℕ) (found : Option Settings) (old mid : Option (List ℕ)) → found ≡ None
+    → Prints old mid (IsConfigTold harts found) → Prints old mid (Begins (codes "config refused\n"))
+refused_config_line harts found old mid is told =
+    subst (λ (f : Option Settings). Prints old mid (IsConfigTold harts f)) is told
 
-pub accepted_image_line : (found : Option LoadRefused) (old mid : Option (List ℕ)) → found ≡ None
-    → Prints old mid (Begins (image_head found)) → Prints old mid (Begins (codes "image accepted\n"))
-accepted_image_line found old mid is told =
-    subst (λ (f : Option LoadRefused). Prints old mid (Begins (image_head f))) is told
+pub accepted_image_line : (file : List ℕ) (ram : ℕ) (found : Option LoadRefused) (old mid : Option (List ℕ))
+    → found ≡ None → Prints old mid (IsImageTold file ram found) → Prints old mid (IsAccepted file ram)
+accepted_image_line file ram found old mid is told =
+    subst (λ (f : Option LoadRefused). Prints old mid (IsImageTold file ram f)) is told
 
-pub check_line : (found : Option LoadRefused) (check : LoadRefused) (number : ℕ) (old mid : Option (List ℕ))
-    → found ≡ Some check → number ≡ reason_number check → Prints old mid (Begins (image_head found))
-    → Prints old mid (Begins (refused_line number))
-check_line found check number old mid is same told =
+pub check_line : (file : List ℕ) (ram : ℕ) (found : Option LoadRefused) (check : LoadRefused) (number : ℕ)
+    (old mid : Option (List ℕ)) → found ≡ Some check → number ≡ reason_number check
+    → Prints old mid (IsImageTold file ram found) → Prints old mid (Begins (refused_line number))
+check_line file ram found check number old mid is same told =
     let line : Prints old mid (Begins (refused_line (reason_number check))) =
-    subst (λ (f : Option LoadRefused). Prints old mid (Begins (image_head f))) is told in
+    subst (λ (f : Option LoadRefused). Prints old mid (IsImageTold file ram f)) is told in
     subst (λ (n : ℕ). Prints old mid (Begins (refused_line n))) (sym same) line
 
 -- and what is so of it
@@ -107,56 +116,53 @@ pub configured : (found : Option Settings) (settings : Settings) (config : List 
 configured found settings config is has =
     subst (λ (f : Option Settings). IfSome f (IsConfiguration config)) is has
 
-pub image_accepted : (found : Option LoadRefused) (file : List ℕ) (ram : ℕ) → found ≡ None
-    → IfNone found (IsAccepted file ram) → IsAccepted file ram
-image_accepted found file ram is has = subst (λ (f : Option LoadRefused). IfNone f (IsAccepted file ram)) is has
-
 -- ---- Refusals
 
 -- Memory and the output are refused, whatever the files are.
-pub writing_refusal : (config : List ℕ) (image : Read) (old new : Option (List ℕ)) (reason : Refused)
-    → IsWritingRefusal reason → IsExplainRefusal config image reason × IsExplanationOf reason old new
-writing_refusal config image old new (Image number) is = absurd is
-writing_refusal config image old new Config is = absurd is
-writing_refusal config image old new Harts is = absurd is
-writing_refusal config image old new (Script number) is = absurd is
-writing_refusal config image old new (Order index) is = absurd is
-writing_refusal config image old new (Step index why) is = absurd is
-writing_refusal config image old new (Trace line rule) is = absurd is
-writing_refusal config image old new Version is = absurd is
-writing_refusal config image old new (Event index rule) is = absurd is
-writing_refusal config image old new (Prediction index) is = absurd is
-writing_refusal config image old new (Register index) is = absurd is
-writing_refusal config image old new (NoUnit kind) is = absurd is
-writing_refusal config image old new (Limit least) is = absurd is
-writing_refusal config image old new (NoHart hart) is = absurd is
-writing_refusal config image old new (Lines number fault) is = absurd is
-writing_refusal config image old new (NamesNothing option) is = absurd is
-writing_refusal config image old new (NamesSeveral option) is = absurd is
-writing_refusal config image old new (NeverFetched option) is = absurd is
-writing_refusal config image old new (Turned from to) is = absurd is
-writing_refusal config image old new (Picture last) is = absurd is
-writing_refusal config image old new (Watch why) is = absurd is
-writing_refusal config image old new (Litmus place fault) is = absurd is
-writing_refusal config image old new NothingToDraw is = absurd is
-writing_refusal config image old new (Condition why) is = absurd is
-writing_refusal config image old new ManyWatched is = absurd is
-writing_refusal config image old new (NoWord address) is = absurd is
-writing_refusal config image old new (NoOutcome number) is = absurd is
-writing_refusal config image old new NotStuck is = absurd is
-writing_refusal config image old new LongStory is = absurd is
-writing_refusal config image old new NoAnswer is = absurd is
-writing_refusal config image old new Memory is = (tt, tt)
-writing_refusal config image old new Thread is = absurd is
-writing_refusal config image old new File is = absurd is
-writing_refusal config image old new Output is = (tt, tt)
+pub writing_refusal : (harts : Option ℕ) (config : List ℕ) (image : Read) (old new : Option (List ℕ))
+    (reason : Refused) → IsWritingRefusal reason
+    → IsExplainRefusal config image reason × IsExplanationOf harts config reason old new
+writing_refusal harts config image old new (Image number) is = absurd is
+writing_refusal harts config image old new Config is = absurd is
+writing_refusal harts config image old new Harts is = absurd is
+writing_refusal harts config image old new (Script number) is = absurd is
+writing_refusal harts config image old new (Order index) is = absurd is
+writing_refusal harts config image old new (Step index why) is = absurd is
+writing_refusal harts config image old new (Trace line rule) is = absurd is
+writing_refusal harts config image old new Version is = absurd is
+writing_refusal harts config image old new (Event index rule) is = absurd is
+writing_refusal harts config image old new (Prediction index) is = absurd is
+writing_refusal harts config image old new (Register index) is = absurd is
+writing_refusal harts config image old new (NoUnit kind) is = absurd is
+writing_refusal harts config image old new (Limit least) is = absurd is
+writing_refusal harts config image old new (NoHart hart) is = absurd is
+writing_refusal harts config image old new (Lines number fault) is = absurd is
+writing_refusal harts config image old new (NamesNothing option) is = absurd is
+writing_refusal harts config image old new (NamesSeveral option) is = absurd is
+writing_refusal harts config image old new (NeverFetched option) is = absurd is
+writing_refusal harts config image old new (Turned from to) is = absurd is
+writing_refusal harts config image old new (Picture last) is = absurd is
+writing_refusal harts config image old new (Watch why) is = absurd is
+writing_refusal harts config image old new (Litmus place fault) is = absurd is
+writing_refusal harts config image old new NothingToDraw is = absurd is
+writing_refusal harts config image old new (Condition why) is = absurd is
+writing_refusal harts config image old new ManyWatched is = absurd is
+writing_refusal harts config image old new (NoWord address) is = absurd is
+writing_refusal harts config image old new (NoOutcome number) is = absurd is
+writing_refusal harts config image old new NotStuck is = absurd is
+writing_refusal harts config image old new LongStory is = absurd is
+writing_refusal harts config image old new NoAnswer is = absurd is
+writing_refusal harts config image old new Memory is = (tt, tt)
+writing_refusal harts config image old new Thread is = absurd is
+writing_refusal harts config image old new File is = absurd is
+writing_refusal harts config image old new Output is = (tt, tt)
 
 -- An image's file that couldn't be read, behind a configuration.
-pub unread_refusal : (config : List ℕ) (settings : Settings) (image : Read) (why : Unread)
+pub unread_refusal : (harts : Option ℕ) (config : List ℕ) (settings : Settings) (image : Read) (why : Unread)
     (old new : Option (List ℕ)) → IsConfiguration config settings → image ≡ Err why
-    → IsExplainRefusal config image (refusal_of why) × IsExplanationOf (refusal_of why) old new
-unread_refusal config settings image unread.File old new is same = ((settings, is, same), tt)
-unread_refusal config settings image unread.Memory old new is same = (tt, tt)
+    → IsExplainRefusal config image (refusal_of why) × IsExplanationOf harts config (refusal_of why) old new
+unread_refusal harts config settings image unread.File old new is same = ((settings, is, same), tt)
+unread_refusal harts config settings image unread.Memory old new is same = (tt, tt)
 
 -- The check that an image fails first, behind a configuration.
 pub image_refusal : (config : List ℕ) (settings : Settings) (file : List ℕ) (number : ℕ) (check : LoadRefused)
@@ -172,13 +178,6 @@ image_refusal config settings file number check is refused same = (
     refusal = refused.refusal;
   },
 )
-
--- Both are accepted.
-pub both_accepted : (config : List ℕ) (settings : Settings) (file : List ℕ) (old new : Option (List ℕ)) (status : ℕ)
-    → IsConfiguration config settings → IsAccepted file settings.ram → ExplainComesTo old new status
-    → OfProgram (Ok config) (Ok file) (λ settings program. ExplainComesTo old new status)
-both_accepted config settings file old new status is accepted told =
-    (settings, is, (accepted.passes, accepted.image, accepted.is_image, told))
 
 -- ---- Of a line
 
@@ -285,25 +284,27 @@ beside_refusal harts told config own file program second reason configured passe
 
 -- Nothing is told beside it; or something is.
 pub alone_comes_to : (harts : Option ℕ) (config : List ℕ) (image second : Read) (old new : Option (List ℕ))
-    (status : ℕ)
-    → OfProgram (Ok config) image (λ settings program. ExplainComesTo old new status)
+    (status : ℕ) → ExplainComesTo harts (Ok config) image old new status
     → ExplainLineComesTo harts None (Ok config) image second old new status
-alone_comes_to harts config (Ok file) second old new status told = (
-  told.0,
-  told.1,
-  (told.2.0, told.2.1, told.2.2, (accepted_of config told.0 told.1, (new, told.2.3, refl))),
-)
-alone_comes_to harts config (Err why) second old new status told = absurd told.2
+alone_comes_to harts config (Ok file) second old new status told =
+    let (settings, configured, text, both, appends) = told.printed in
+    (
+      settings,
+      configured,
+      (both.accepted.passes, both.accepted.image, both.accepted.is_image,
+      (accepted_of config settings configured, (new, told, refl))),
+    )
+alone_comes_to harts config (Err why) second old new status told = absurd told.printed.2
 
 pub both_come_to : (harts : Option ℕ) (told : Beside) (config : List ℕ) (image second : Read)
     (old mid new : Option (List ℕ)) (status : ℕ)
-    → OfProgram (Ok config) image (λ settings program. ExplainComesTo old mid status)
+    → ExplainComesTo harts (Ok config) image old mid status
     → OfProgram (Ok config) image
     (λ settings program. HasToldBeside harts (Some told) settings program second mid new)
     → ExplainLineComesTo harts (Some told) (Ok config) image second old new status
 both_come_to harts told config (Ok file) second old mid new status first then = (
   then.0,
   then.1,
-  (then.2.0, then.2.1, then.2.2, (accepted_of config then.0 then.1, (mid, first.2.3, then.2.3))),
+  (then.2.0, then.2.1, then.2.2, (accepted_of config then.0 then.1, (mid, first, then.2.3))),
 )
 both_come_to harts told config (Err why) second old mid new status first then = absurd then.2

@@ -7,8 +7,10 @@ use Rattle.elf_image.specs.Image.{ProgramImage}
 use Rattle.scripts.specs.{declared.actions.ScriptWord.ScriptWord}
 use Rattle.scripts.specs.Script.{IsScript, IsFirstMisspelled}
 use Rattle.sim_inputs.specs.{declared.settings.Settings.Settings, declared.line.Beside.Beside}
+use Rattle.sim_inputs.specs.Configuration.{with_harts}
 use Rattle.sim_inputs.specs.declared.line.Beside.TheVariants as beside
-use Rattle.explanations.specs.Explained.{Begins, refused_line}
+use Rattle.explanations.specs.{Explained.Begins, Explained.IsAccepted, Explained.refused_line}
+use Rattle.explanations.specs.ConfigText.{accepted_config}
 use Rattle.core_commands.specs.{Check.AreHistory, Check.OfEvents, Judgement.IsJudgementRefusal}
 use Rattle.explained_words.specs.Explained.{IsOrderFault, IsFollowed, script_head, order_head}
 use Rattle.explained_words.specs.declared.order.OrderFault.TheVariants as fault
@@ -36,27 +38,34 @@ IsWritingRefusal Memory = Unit {0}
 IsWritingRefusal Output = Unit {0}
 IsWritingRefusal _ = ⊥
 
--- A text has the line of a configuration at its start, and that of an image behind what is said of
--- the configuration.
-abbrev pub Tells : List ℕ → List ℕ → List ℕ → Type 0
-Tells config image text = (settings : List ℕ) × (rest : List ℕ)
-    × (text ≡ config ++ (settings ++ (image ++ rest)))
+-- A text says which settings a configuration makes, with so many harts where that is given, and behind that all that
+-- there is to say of the file of an image that is accepted.
+pub record TellsBoth (harts : Option ℕ) (settings : Settings) (file text : List ℕ) : Type 0 where
+  pub said : List ℕ
+  pub accepted : IsAccepted file settings.ram said
+  pub whole : text ≡ accepted_config (with_harts harts settings) ++ said
+
+-- Or behind that the line of an image that fails the check of this number.
+abbrev pub TellsCheck : Option ℕ → Settings → ℕ → List ℕ → Type 0
+TellsCheck harts settings number text = (rest : List ℕ)
+    × (text ≡ accepted_config (with_harts harts settings) ++ (refused_line number ++ rest))
 
 -- Some text was printed.
 abbrev pub PrintsSome : Option (List ℕ) → Option (List ℕ) → Type 0
 PrintsSome old new = Prints old new (λ text. Unit {0})
 
--- What was printed before a refusal: that the configuration is refused; or that it is accepted, and
--- the number of the check that the image fails.
-abbrev pub IsExplanationOf : Refused → Option (List ℕ) → Option (List ℕ) → Type 0
-IsExplanationOf (Image number) old new =
-    Prints old new (Tells (codes "config accepted\n") (refused_line number))
-IsExplanationOf Config old new = Prints old new (Begins (codes "config refused\n"))
-IsExplanationOf reason old new = Unit {0}
+-- What was printed before a refusal: that the configuration is refused; or which settings it makes, and the number of
+-- the check that the image fails.
+abbrev pub IsExplanationOf : Option ℕ → List ℕ → Refused → Option (List ℕ) → Option (List ℕ) → Type 0
+IsExplanationOf harts config (Image number) old new =
+    OfSettings (Ok config) (λ settings. Prints old new (TellsCheck harts settings number))
+IsExplanationOf harts config Config old new = Prints old new (Begins (codes "config refused\n"))
+IsExplanationOf harts config reason old new = Unit {0}
 
--- What the command comes to: it says that both are accepted, and the exit status is 0.
-pub record ExplainComesTo (old new : Option (List ℕ)) (exit_status : ℕ) : Type 0 where
-  pub printed : Prints old new (Tells (codes "config accepted\n") (codes "image accepted\n"))
+-- What the command comes to: both are accepted, it says what is in them, and the exit status is 0.
+pub record ExplainComesTo (harts : Option ℕ) (config image : Read) (old new : Option (List ℕ)) (exit_status : ℕ)
+    : Type 0 where
+  pub printed : OfSettings config (λ settings. OfFile image (λ file. Prints old new (TellsBoth harts settings file)))
   pub zero : exit_status ≡ 0
 
 -- ---- Beside them

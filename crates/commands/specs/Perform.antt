@@ -96,7 +96,8 @@ HasToldBeside harts (Some beside) settings program second old new = (TellsTwoCor
 abbrev pub ExplainLineComesTo : Option ℕ → Option Beside → Read → Read → Read → Option (List ℕ)
     → Option (List ℕ) → ℕ → Type 0
 ExplainLineComesTo harts beside config image second old new status = OfProgram config image
-    (λ settings program. AreAccepted settings × ((mid : Option (List ℕ)) × ExplainComesTo old mid status
+    (λ settings program. AreAccepted settings × ((mid : Option (List ℕ))
+    × ExplainComesTo harts config image old mid status
     × HasToldBeside harts beside settings program second mid new))
 
 -- When each refusal comes of a litmus test: the configuration is looked at first, then the test. A file

@@ -3,12 +3,10 @@
 ghost use Rattle.std.specs.Prelude.{◌≡◌, Ok, Err, IfOk, IfErr, OnOk, IfSome, IfNone};
 ghost use Rattle.std.specs.Io.KnownBytes.{Appends};
 ghost use Rattle.text_fields.specs.Printing.{Prints};
-ghost use Rattle.elf_image.specs.Loaded.{IsImageOf};
 ghost use Rattle.sim_inputs.specs.Configuration.{IsConfiguration};
-ghost use Rattle.explanations.specs.Explained.{Begins, config_head, image_head};
-ghost use Rattle.explanations.specs.Explained.{IsRefusedBy, IsAccepted};
+ghost use Rattle.explanations.specs.Explained.{IsConfigTold, IsImageTold, IsRefusedBy};
 ghost use Rattle.command_parts.specs.declared.refused.Refused.TheVariants.{Output};
-ghost use Rattle.command_parts.specs.Inputs.{as_read, OfProgram, IsNoConfiguration};
+ghost use Rattle.command_parts.specs.Inputs.{as_read, IsNoConfiguration};
 ghost use Rattle.commands.specs.Explain.{IsExplainRefusal, IsExplanationOf, ExplainComesTo};
 ghost use Rattle.commands.specs.Explain.{IsWritingRefusal, PrintsSome};
 
@@ -39,9 +37,9 @@ pub fn perform_explain<W: Write>(
 ) -> Result<u8, Refused>
     ensures refused { IfErr result (IsExplainRefusal config.now (as_read image.entry)) }
     ensures explained { IfErr result
-        (λ reason. IsExplanationOf reason (W.contents out.old) (W.contents out.new)) }
-    ensures ended { IfOk result (λ status. OfProgram (Ok config.now) (as_read image.entry)
-        (λ settings program. ExplainComesTo (W.contents out.old) (W.contents out.new) status)) }
+        (λ reason. IsExplanationOf harts.now config.now reason (W.contents out.old) (W.contents out.new)) }
+    ensures ended { IfOk result (ExplainComesTo harts.now (Ok config.now) (as_read image.entry)
+        (W.contents out.old) (W.contents out.new)) }
 {
     let Some(settings) = tell_config(config, harts, out, alloc)? else {
         tell_without_config(image, out, alloc)?;
@@ -66,7 +64,7 @@ fn tell_config<W: Write>(
     ensures accepted { IfOk result (λ settings. IfSome settings (IsConfiguration config.now)) }
     ensures none { IfOk result (λ settings. IfNone settings (IsNoConfiguration config.now)) }
     ensures printed { IfOk result (λ settings.
-        Prints (W.contents out.old) (W.contents out.new) (Begins (config_head settings))) }
+        Prints (W.contents out.old) (W.contents out.new) (IsConfigTold harts.now settings)) }
 {
     match explain_config(config, *harts, alloc) {
         Ok(said) => {
@@ -86,10 +84,9 @@ fn tell_image<W: Write>(
     alloc: Global,
 ) -> Result<Option<LoadRefused>, Refused>
     ensures refused { IfErr result IsWritingRefusal }
-    ensures accepted { IfOk result (λ check. IfNone check (IsAccepted file.now ram)) }
     ensures fails { IfOk result (λ check. IfSome check (IsRefusedBy file.now ram)) }
     ensures printed { IfOk result (λ check.
-        Prints (W.contents out.old) (W.contents out.new) (Begins (image_head check))) }
+        Prints (W.contents out.old) (W.contents out.new) (IsImageTold file.now ram check)) }
 {
     match explain_image(file, ram, alloc) {
         Ok(said) => {

@@ -1,3 +1,4 @@
 mod Checks
 mod Ends
 mod Faults
+mod Printed

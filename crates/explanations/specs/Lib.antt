@@ -1,1 +1,3 @@
+pub mod ConfigText
+pub mod ImageText
 pub mod Explained

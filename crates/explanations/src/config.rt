@@ -1,15 +1,15 @@
 //! What is said of a configuration.
 
-ghost use Rattle.std.specs.Prelude.{IfOk, OnOk, codes};
+ghost use Rattle.std.specs.Prelude.{◌≡◌, IfOk, OnOk, codes};
+ghost use Rattle.sim_inputs.specs.Configuration.{with_harts};
+ghost use Rattle.explanations.specs.ConfigText.{accepted_config};
 ghost use Rattle.explanations.specs.Explained.{Begins, IsConfigExplained, IsTold};
 
 use crate::config_fault::write_config_fault;
 use crate::lines::joined;
+use crate::settings_text::write_settings;
 use sim_inputs::{ConfigFault, HartCount, Settings, read_config_or_fault};
-use smt_model::Role;
 use std::alloc::{AllocError, Global};
-use std::io;
-use std::io::Write;
 
 /// What is said of a configuration.
 #[derive(Drop)]
@@ -27,7 +27,7 @@ pub fn explain_config(
     harts: Option<HartCount>,
     alloc: Global,
 ) -> Result<ConfigExplained, AllocError>
-    ensures { IfOk result (IsConfigExplained text.now) }
+    ensures { IfOk result (IsConfigExplained harts text.now) }
 {
     match read_config_or_fault(text, alloc) {
         Ok(settings) => {
@@ -53,7 +53,7 @@ fn accepted_text(
     harts: Option<HartCount>,
     alloc: Global,
 ) -> Result<Vec<u8>, AllocError>
-    ensures { IfOk result (λ text. Begins (codes "config accepted\n") text.items) }
+    ensures { IfOk result (λ text. text.items ≡ accepted_config (with_harts harts settings.now)) }
 {
     let mut rest = Vec::new(alloc);
     match write_settings(settings, harts, &mut rest) {
@@ -72,48 +72,4 @@ fn refused_text(fault: &ConfigFault, text: &[u8], alloc: Global) -> Result<Vec<u
         Ok(()) => joined(b"config refused\n", &rest, alloc),
         Err(_) => Err(AllocError),
     }
-}
-
-/// Writes each setting under its key, the actors by number; these harts in place of its own where that is given.
-fn write_settings<W: Write>(
-    settings: &Settings,
-    harts: Option<HartCount>,
-    out: &mut W,
-) -> io::Result<()> {
-    let config = &settings.config;
-    let count = match harts {
-        Some(harts) => harts.count(),
-        None => config.harts,
-    };
-    writeln!(out, "harts {count}")?;
-    writeln!(out, "extra {}", config.extra)?;
-    writeln!(out, "queue {}", config.queue)?;
-    writeln!(out, "ram {}", settings.ram.bytes())?;
-    writeln!(out, "limit {}", settings.limit)?;
-    writeln!(out, "turns {}", settings.turns)?;
-    write_actors(config.roles.as_slice(), out)
-}
-
-/// Writes the role of each actor, and which role none has, where `run` needs one of each.
-fn write_actors<W: Write>(roles: &[Role], out: &mut W) -> io::Result<()> {
-    for (actor, role) in roles.iter().enumerate() {
-        writeln!(out, "actor {actor} {}", role.name())?;
-    }
-    for role in [
-        Role::Fetch,
-        Role::Front,
-        Role::Retire,
-        Role::Alu,
-        Role::Mul,
-        Role::Mem,
-    ] {
-        if !roles.contains(&role) {
-            let name = role.name();
-            writeln!(
-                out,
-                "no actor is `{name}`: `run`, which needs one of each role, refuses this"
-            )?;
-        }
-    }
-    Ok(())
 }

@@ -1,16 +1,18 @@
 //! What is said of an image.
 
-ghost use Rattle.std.specs.Prelude.{◌≡◌, ◌+◌, ◌*◌, ◌<◌, ◌≤◌, IfOk, codes, length};
+ghost use Rattle.std.specs.Prelude.{◌≡◌, ◌+◌, ◌*◌, ◌<◌, ◌≤◌, IfOk, OnOk, length};
+ghost use Rattle.text_fields.specs.{Printing.Prints};
 ghost use Rattle.elf_image.specs.Refusal.{reason_number};
 ghost use Rattle.elf_image.specs.Layout.{table_offset, table_count};
 ghost use Rattle.explanations.specs.Explained.{Begins, IsImageExplained, IsRefusedBy, refused_line};
+ghost use Rattle.explanations.specs.ImageText.{IsImageText, IsImageTextBehind};
 
 use crate::file_fault::{write_file_fault, write_too_short};
 use crate::headers::read_loadable;
 use crate::lines::{joined, no_memory};
 use crate::names::write_names;
 use crate::segment_fault::write_segment_fault;
-use crate::segments::write_image;
+use crate::segments::{free_behind, write_image};
 use arrayvec::ArrayString;
 use elf_image::{Image, LoadRefused, ProgramHeader, RamSize, load};
 use std::alloc::{AllocError, Global};
@@ -52,28 +54,34 @@ pub fn explain_image(file: &[u8], ram: RamSize, alloc: Global) -> Result<ImageEx
 }
 
 /// What is said of a file that is the file of this image.
+#[tactic(auto, using(crate::proofs::Printed::told_image))]
 fn accepted_text(file: &[u8], image: &Image, alloc: Global) -> Result<Vec<u8>, AllocError>
     requires whole { 52 ≤ length file.now }
     requires table { table_offset file.now + 32 * table_count file.now ≤ length file.now }
-    ensures { IfOk result (λ text. Begins (codes "image accepted\n") text.items) }
+    ensures { IfOk result (λ text. IsImageText file.now image.now text.items) }
 {
     let headers = read_loadable(file, alloc)?;
+    let free = free_behind(image);
     let mut rest = Vec::new(alloc);
-    match write_all(file, image, &headers, &mut rest, alloc) {
+    match write_all(file, image, &headers, free, &mut rest, alloc) {
         Ok(()) => joined(b"image accepted\n", &rest, alloc),
         Err(_) => Err(AllocError),
     }
 }
 
-/// Writes what is in an image, and which names its file has.
+/// Writes what is in an image, with so many bytes free behind its last segment, and which names its file has.
 fn write_all<W: Write>(
     file: &[u8],
     image: &Image,
     headers: &[ProgramHeader],
+    free: u64,
     out: &mut W,
     alloc: Global,
-) -> io::Result<()> {
-    write_image(image, headers, out)?;
+) -> io::Result<()>
+    ensures { OnOk result (Prints (W.contents out.old) (W.contents out.new)
+        (IsImageTextBehind file.now headers.now image.now free)) }
+{
+    write_image(image, headers, free, out)?;
     write_names(file, image.entry(), out, alloc)
 }
 

@@ -18,6 +18,7 @@ mod near;
 mod place;
 mod segment_fault;
 mod segments;
+mod settings_text;
 
 pub use config::{ConfigExplained, explain_config};
 pub use image::{ImageExplained, explain_image};

@@ -6,5 +6,5 @@ pub returns-in_ok-text-in-Err : goal.returns-in_ok-text-in-Err
 returns-in_ok-text-in-Err c = record {
   accepted = tt;
   refused = refused c.args.text.now c.in-Err.fault c.in-Err.ensures.refused (search rules);
-  begins = search rules;
+  told = search rules;
 }
