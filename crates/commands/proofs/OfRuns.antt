@@ -26,7 +26,7 @@ module _ {S : Type 0} (begins : S → ℕ → Part → S → Type 0) (written : 
     (finished : OnOk answer (is_finished after ≡ true)) (unreported : has_failed after ≡ true → new ≡ old) where
   pub many_performed : (times : ℕ) → run.times ≡ Some times
       → IfErr answer (IsStressRefusal settings program names run)
-      → IfOk answer (StressComesTo settings program names run times
+      → IfOk answer (StressComesTo settings program names run times (λ cores. Unit {0})
       (AreEndsWritten begins written has_failed before after (is_some run.keep) names) old new)
       → (is_some run.keep ≡ false → after ≡ before)
       → IsPerformed begins is_finished written has_failed before after

@@ -3,6 +3,7 @@ use Rattle.std.specs.Prelude.{◌≡◌, ◌⊎◌, ℕ, List, Option, Some, Non
 use Rattle.std.proofs.Common.{sym, subst}
 use mathlib.Core.Logic.{inl, inr}
 use Rattle.std.specs.Io.KnownBytes.{Keeps}
+use Rattle.core_state.specs.View.{CoreView}
 use Rattle.sim_inputs.specs.{declared.settings.Settings.Settings, Configuration.IsConfiguration}
 use Rattle.sim_inputs.specs.declared.line.LitmusCommand.{LitmusCommand}
 use Rattle.command_parts.specs.declared.refused.Refused.{Refused}
@@ -80,10 +81,11 @@ flushed_states text settings litmus Put old mid new status is flushed = record {
   ];
 }
 
-flushed_runs : (text : List ℕ) (settings : Settings) (litmus : LitmusCommand) (times : ℕ) (Put : List ℕ → Type 0)
-    (old mid new : Option (List ℕ)) (status : ℕ) → TestRunsComeTo text settings litmus times Put old mid status
-    → Keeps mid new → TestRunsComeTo text settings litmus times Put old new status
-flushed_runs text settings litmus times Put old mid new status is flushed = record {
+flushed_runs : (text : List ℕ) (settings : Settings) (litmus : LitmusCommand) (times : ℕ)
+    (Made : List CoreView → Type 0) (Put : List ℕ → Type 0) (old mid new : Option (List ℕ)) (status : ℕ)
+    → TestRunsComeTo text settings litmus times Made Put old mid status → Keeps mid new
+    → TestRunsComeTo text settings litmus times Made Put old new status
+flushed_runs text settings litmus times Made Put old mid new status is flushed = record {
   test = is.test;
   is_text = is.is_text;
   well_formed = is.well_formed;
@@ -103,6 +105,7 @@ flushed_runs text settings litmus times Put old mid new status is flushed = reco
         cores = all.counted.cores;
         many = all.counted.many;
         are = all.counted.are;
+        made = all.counted.made;
         printed = kept old mid new _ all.counted.printed flushed;
         stands = all.counted.stands;
       };
@@ -126,7 +129,7 @@ flushed_so : (run : Option ℕ) (text : List ℕ) (settings : Settings) (litmus 
 flushed_so None text settings litmus Put old mid new status is flushed =
     flushed_states text settings litmus Put old mid new status is flushed
 flushed_so (Some times) text settings litmus Put old mid new status is flushed =
-    flushed_runs text settings litmus times Put old mid new status is flushed
+    flushed_runs text settings litmus times (λ cores. Unit {0}) Put old mid new status is flushed
 
 module _ (litmus : LitmusCommand) (text file : List ℕ) (settings : Settings)
     (configured : IsConfiguration text settings) where
@@ -186,7 +189,7 @@ run_refused run times is text settings litmus answer refused =
 
 pub run_ended : (run : Option ℕ) (times : ℕ) → run ≡ Some times → (text : List ℕ) (settings : Settings)
     (litmus : LitmusCommand) (Put : List ℕ → Type 0) (old new : Option (List ℕ)) (answer : Result ℕ Refused)
-    → IfOk answer (TestRunsComeTo text settings litmus times Put old new)
+    → IfOk answer (TestRunsComeTo text settings litmus times (λ cores. Unit {0}) Put old new)
     → IfOk answer (TestedComesTo run text settings litmus Put old new)
 run_ended run times is text settings litmus Put old new answer ended =
     subst (λ (r : Option ℕ). IfOk answer (TestedComesTo r text settings litmus Put old new)) (sym is) ended

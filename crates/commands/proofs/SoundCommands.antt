@@ -150,6 +150,7 @@ module _ (run : RunCommand) (settings : Settings) (program : ProgramImage) (name
     cores = is.cores;
     many = is.many;
     are = is.are;
+    made = is.made;
     kept = is.kept;
     printed = kept old mid new _ is.printed flushed;
     stands = is.stands;

@@ -68,7 +68,7 @@ abbrev pub RunsComeTo : Option ℕ → RunCommand → Settings → ProgramImage 
 RunsComeTo None run settings image names marks Traced old new status =
     RunComesTo settings image (run_wants run) marks (λ core. Traced (TraceOf (is_some run.trace) core)) old new status
 RunsComeTo (Some times) run settings image names marks Traced old new status =
-    StressComesTo settings image names run times
+    StressComesTo settings image names run times (λ cores. Unit {0})
     (λ watch cores. Traced (EndsOf (is_some run.keep) names watch cores)) old new status
 
 -- How the story of an order is told, where it is wanted.

@@ -14,4 +14,4 @@ abbrev pub TestedComesTo : Option ℕ → List ℕ → Settings → LitmusComman
     → Option (List ℕ) → ℕ → Type 0
 TestedComesTo None text settings litmus Put old new status = LitmusComesTo text settings litmus Put old new status
 TestedComesTo (Some times) text settings litmus Put old new status =
-    TestRunsComeTo text settings litmus times Put old new status
+    TestRunsComeTo text settings litmus times (λ cores. Unit {0}) Put old new status

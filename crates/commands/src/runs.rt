@@ -11,7 +11,7 @@ ghost use Rattle.commands.specs.Perform.{IsPerformed};
 use actors::Gate;
 use address_labels::Labels;
 use command_parts::{Context, Refused};
-use core_commands::{Wanted, perform_run, perform_stress};
+use core_commands::{Wanted, make_run, perform_run, perform_stress};
 use elf_image::Image;
 use sim_inputs::{RunCommand, Settings};
 use smt_core::Predict;
@@ -46,7 +46,11 @@ pub(crate) fn perform_runs<
         result }
 {
     if let Some(times) = run.times {
-        return perform_stress(context, image, settings, names, run, times);
+        let (rt, gate, predict, alloc) = (context.rt, context.gate, context.predict, context.alloc);
+        let mut make = |image: &Image, settings: &Settings| make_run(
+            rt, image, settings, gate, predict, alloc,
+        );
+        return perform_stress(context, &mut make, image, settings, names, run, times);
     }
     let wanted = Wanted::of_run(run);
     perform_run(context, image, settings, wanted, labels)

@@ -7,7 +7,8 @@ ghost use Rattle.commands.specs.Tested.{IsTestedRefusal, TestedComesTo};
 
 use actors::Gate;
 use command_parts::{Context, Refused};
-use core_commands::perform_test_runs;
+use core_commands::{make_run, perform_test_runs};
+use elf_image::Image;
 use plain_commands::perform_litmus;
 use sim_inputs::{LitmusCommand, Settings};
 use smt_core::Predict;
@@ -43,7 +44,11 @@ pub(crate) fn test_or_run<
         → W.contents context.new.out ≡ W.contents context.old.out }
 {
     if let Some(times) = litmus.run {
-        return perform_test_runs(context, text, litmus, settings, times);
+        let (rt, gate, predict, alloc) = (context.rt, context.gate, context.predict, context.alloc);
+        let mut make = |image: &Image, settings: &Settings| make_run(
+            rt, image, settings, gate, predict, alloc,
+        );
+        return perform_test_runs(context, &mut make, text, litmus, settings, times);
     }
     perform_litmus(
         text,

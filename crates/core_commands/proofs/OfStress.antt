@@ -30,6 +30,7 @@ use Rattle.core_commands.specs.Watching.{IsAsking, IsAskedOnce, IsAskedRefusal, 
 use Rattle.core_commands.specs.Watching.{LacksRoomFor}
 use Rattle.core_commands.specs.Stress.{StressComesTo, HasTallied, HasRunOnce, AreEndsWritten, IsEndWritten, runs_of}
 use Rattle.core_commands.specs.Stress.{IsStressRefusal, answer_told, stress_status, stress_text}
+use Rattle.core_commands.specs.Making.{AreMade}
 
 module _ {S : Type 0} (begins : S → ℕ → Part → S → Type 0) (written : S → Option (List ℕ)) (has_failed : S → Bool)
     (names : Table) (watch : Watch) where
@@ -93,16 +94,20 @@ module _ {S : Type 0} (begins : S → ℕ → Part → S → Type 0) (written : 
 -- ---- The runs
 
 module _ {S : Type 0} (begins : S → ℕ → Part → S → Type 0) (written : S → Option (List ℕ)) (has_failed : S → Bool)
+    {M : Type 0} (leaves : M → CoreView → M → Type 0)
     (settings : Settings) (image : ProgramImage) (names : Table) (watch : Watch) (keep : Bool) where
-  pub first_run : (s t : S) (old new : TallyView) → old ≡ tally_of []
-      → HasRunOnce settings image watch (IsEndWritten begins written has_failed s t keep names watch) old new
-      → HasTallied settings image watch (AreEndsWritten begins written has_failed s t keep names watch) 1 new
-  first_run s t old new none once = record {
+  pub first_run : (m n : M) (s t : S) (old new : TallyView) → old ≡ tally_of []
+      → HasRunOnce settings image watch (λ core. leaves m core n)
+      (IsEndWritten begins written has_failed s t keep names watch) old new
+      → HasTallied settings image watch (AreMade leaves m n)
+      (AreEndsWritten begins written has_failed s t keep names watch) 1 new
+  first_run m n s t old new none once = record {
     accepted = once.accepted;
     manned = once.manned;
     cores = once.core ∷ [];
     many = refl;
     are = (once.is, tt);
+    made = (m, refl, once.made);
     kept = more_written begins written has_failed names watch keep [] once.core s s t
         (nothing_written begins written has_failed names watch keep s)
         (subst (λ (u : TallyView). IsEndWritten begins written has_failed s t keep names watch u.rows once.core) none
@@ -110,11 +115,14 @@ module _ {S : Type 0} (begins : S → ℕ → Part → S → Type 0) (written : 
     tallied = once.counted [] (omega arith) none;
   }
 
-  pub one_more_run : (r s t : S) (n : ℕ) (old new : TallyView) → n + 1 < 2 ^ 32
-      → HasTallied settings image watch (AreEndsWritten begins written has_failed r s keep names watch) n old
-      → HasRunOnce settings image watch (IsEndWritten begins written has_failed s t keep names watch) old new
-      → HasTallied settings image watch (AreEndsWritten begins written has_failed r t keep names watch) (n + 1) new
-  one_more_run r s t n old new few so_far once =
+  pub one_more_run : (k l m : M) (r s t : S) (n : ℕ) (old new : TallyView) → n + 1 < 2 ^ 32
+      → HasTallied settings image watch (AreMade leaves k l)
+      (AreEndsWritten begins written has_failed r s keep names watch) n old
+      → HasRunOnce settings image watch (λ core. leaves l core m)
+      (IsEndWritten begins written has_failed s t keep names watch) old new
+      → HasTallied settings image watch (AreMade leaves k m)
+      (AreEndsWritten begins written has_failed r t keep names watch) (n + 1) new
+  one_more_run k l m r s t n old new few so_far once =
       let all = so_far.cores in
       let longer : length (once.core ∷ all) ≡ n + 1 = omega (arith, so_far.many) in
       let short : length (map (end_of watch) all) + 1 < 2 ^ 32 =
@@ -125,17 +133,18 @@ module _ {S : Type 0} (begins : S → ℕ → Part → S → Type 0) (written : 
         cores = once.core ∷ all;
         many = longer;
         are = (once.is, so_far.are);
+        made = (l, so_far.made, once.made);
         kept = more_written begins written has_failed names watch keep all once.core r s t so_far.kept
             (subst (λ (u : TallyView). IsEndWritten begins written has_failed s t keep names watch u.rows once.core)
             so_far.tallied once.kept);
         tallied = once.counted (map (end_of watch) all) short so_far.tallied;
       }
 
-pub same_many : (settings : Settings) (image : ProgramImage) (watch : Watch) (Kept : List CoreView → Type 0) (m n : ℕ)
-    (tally : TallyView)
-    → m ≡ n → HasTallied settings image watch Kept m tally → HasTallied settings image watch Kept n tally
-same_many settings image watch Kept m n tally same so =
-    subst (λ runs. HasTallied settings image watch Kept runs tally) same so
+pub same_many : (settings : Settings) (image : ProgramImage) (watch : Watch) (Made Kept : List CoreView → Type 0)
+    (m n : ℕ) (tally : TallyView)
+    → m ≡ n → HasTallied settings image watch Made Kept m tally → HasTallied settings image watch Made Kept n tally
+same_many settings image watch Made Kept m n tally same so =
+    subst (λ runs. HasTallied settings image watch Made Kept runs tally) same so
 
 -- What is watched for a list, as that is lent.
 pub watches_lent : (watch : Watch) (lent all : List Asked) → lent ≡ all → watch.registers.items ≡ registers_in lent
@@ -172,15 +181,15 @@ module _ (all lent registers words : List Asked) (watch : Watch) (question : Opt
 -- The table of the runs and the answer were printed, and the status goes with that. Whether ends are kept is held as it
 -- was found, and what was printed before is as it was lent.
 module _ (settings : Settings) (image : ProgramImage) (names : Table) (run : RunCommand) (times : ℕ)
-    (Kept : Bool → Watch → List CoreView → Type 0) (question : Option Question) (all : List Asked) (watch : Watch)
+    (Made : List CoreView → Type 0) (Kept : Bool → Watch → List CoreView → Type 0) (question : Option Question) (all : List Asked) (watch : Watch)
     (tally : TallyView) (lent old new : Option (List ℕ)) (runs : ℕ) (held keep : Bool)
     (asking : IsAsking settings.config.harts names run question all) (watches : IsWatchOf watch all)
     (there : IsAllThere image settings.config.harts watch)
-    (done : HasTallied settings image watch (Kept held watch) runs tally) (same : runs ≡ runs_of times)
+    (done : HasTallied settings image watch Made (Kept held watch) runs tally) (same : runs ≡ runs_of times)
     (same_keep : held ≡ keep) (unprinted : lent ≡ old) where
   told_so : (status : ℕ) → Appends old new (stress_text all watch question runs tally)
       → status ≡ stress_status watch question tally
-      → StressComesTo settings image names run times (Kept keep) old new status
+      → StressComesTo settings image names run times Made (Kept keep) old new status
   told_so status printed is = record {
     accepted = done.accepted;
     manned = done.manned;
@@ -193,6 +202,7 @@ module _ (settings : Settings) (image : ProgramImage) (names : Table) (run : Run
     cores = done.cores;
     many = done.many ∙ same;
     are = done.are;
+    made = done.made;
     kept = subst (λ (k : Bool). Kept k watch done.cores) same_keep done.kept;
     printed = rw (same, done.tallied) at printed;
     stands = is ∙ ap (λ (u : TallyView). stress_status watch question u) done.tallied;
@@ -201,10 +211,34 @@ module _ (settings : Settings) (image : ProgramImage) (names : Table) (run : Run
   pub stress_ended : (answer : Result ℕ Refused)
       → OnOk answer (Appends lent new (stress_text all watch question runs tally))
       → IfOk answer (λ status. status ≡ stress_status watch question tally)
-      → IfOk answer (StressComesTo settings image names run times (Kept keep) old new)
+      → IfOk answer (StressComesTo settings image names run times Made (Kept keep) old new)
   stress_ended (Ok status) printed is = told_so status
       (subst (λ (o : Option (List ℕ)). Appends o new (stress_text all watch question runs tally)) unprinted printed) is
   stress_ended (Err why) printed is = tt
+
+-- Whatever is said of how the cores were made.
+pub stress_anyhow : (settings : Settings) (image : ProgramImage) (names : Table) (run : RunCommand) (times : ℕ)
+    (Made : List CoreView → Type 0) (Kept : Watch → List CoreView → Type 0) (old new : Option (List ℕ))
+    (answer : Result ℕ Refused) → IfOk answer (StressComesTo settings image names run times Made Kept old new)
+    → IfOk answer (StressComesTo settings image names run times (λ cores. Unit {0}) Kept old new)
+stress_anyhow settings image names run times Made Kept old new (Err why) ended = tt
+stress_anyhow settings image names run times Made Kept old new (Ok status) ended = record {
+  accepted = ended.accepted;
+  manned = ended.manned;
+  question = ended.question;
+  all = ended.all;
+  watch = ended.watch;
+  asking = ended.asking;
+  watches = ended.watches;
+  there = ended.there;
+  cores = ended.cores;
+  many = ended.many;
+  are = ended.are;
+  made = tt;
+  kept = ended.kept;
+  printed = ended.printed;
+  stands = ended.stands;
+}
 
 -- ---- The refusals
 

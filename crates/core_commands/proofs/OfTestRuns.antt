@@ -25,8 +25,9 @@ use Rattle.outcome_text.specs.Listing.{incomplete_text}
 use Rattle.command_parts.specs.declared.refused.Refused.{Refused}
 use Rattle.command_parts.specs.declared.refused.Refused.TheVariants as reasons
 use Rattle.plain_commands.specs.{Litmus.IsSearched, Litmus.KeepsImage, Outcomes.IsWant}
-use Rattle.core_commands.specs.{Stress.HasTallied, Stress.IsOneRun, Stress.runs_of}
-use Rattle.core_commands.specs.TestRuns.{HasCounted, IsRunsRefusal, PrintsHistogram, RunsComeTo, histogram_status}
+use Rattle.core_commands.specs.{Making.IsOneRun, Stress.HasTallied, Stress.runs_of}
+use Rattle.core_commands.specs.TestRuns.{HasCounted, IsRunsRefusal, PrintsHistogram, RunsComeTo, TestRunsComeTo}
+use Rattle.core_commands.specs.TestRuns.{histogram_status}
 
 -- ---- The rows of a tally, and its runs
 
@@ -34,31 +35,33 @@ pub as_runs : (ends : List Ending) → in_rows (rows_of ends) ≡ in_runs ends
 as_runs ends = fun_ext (λ test. rows_count test ends)
 
 -- There are few rows, as there are few runs.
-pub few : (settings : Settings) (image : ProgramImage) (watch : Watch) (Kept : List CoreView → Type 0) (runs : ℕ)
-    (tally : TallyView) → HasTallied settings image watch Kept runs tally → runs < 2 ^ 32 → length tally.rows < 2 ^ 32
-few settings image watch Kept runs tally is small =
+pub few : (settings : Settings) (image : ProgramImage) (watch : Watch) (Made Kept : List CoreView → Type 0) (runs : ℕ)
+    (tally : TallyView) → HasTallied settings image watch Made Kept runs tally → runs < 2 ^ 32
+    → length tally.rows < 2 ^ 32
+few settings image watch Made Kept runs tally is small =
     let ends = map (end_of watch) is.cores in
     let many : length ends ≡ runs = length-map is.cores (end_of watch) ∙ is.many in
     let rows : length tally.rows ≡ length (rows_of ends) = ap (λ (t : TallyView). length t.rows) is.tallied in
     let no_more = few_rows ends in omega (arith, many, rows, no_more, small)
 
 -- The histogram of a tally is that of its runs.
-module _ (test : LitmusTest) (settings : Settings) (image : ProgramImage) (watch : Watch) (Kept : List CoreView → Type 0)
-    (listed : List Told) (runs : ℕ) (tally : TallyView) (old new : Option (List ℕ))
-    (is : HasTallied settings image watch Kept runs tally) where
+module _ (test : LitmusTest) (settings : Settings) (image : ProgramImage) (watch : Watch)
+    (Made Kept : List CoreView → Type 0) (listed : List Told) (runs : ℕ) (tally : TallyView) (old new : Option (List ℕ))
+    (is : HasTallied settings image watch Made Kept runs tally) where
   counts : in_rows tally.rows ≡ in_runs (map (end_of watch) is.cores)
   counts = ap (λ (t : TallyView). in_rows t.rows) is.tallied ∙ as_runs (map (end_of watch) is.cores)
 
   pub counted : (answer : Result ℕ Refused)
       → OnOk answer (Appends old new (histogram_text test (in_rows tally.rows) listed))
       → IfOk answer (λ status. status ≡ histogram_status test (in_rows tally.rows))
-      → IfOk answer (HasCounted test settings image watch listed runs old new)
+      → IfOk answer (HasCounted test settings image watch listed runs Made old new)
   counted (Ok status) printed stands = record {
     accepted = is.accepted;
     manned = is.manned;
     cores = is.cores;
     many = is.many;
     are = is.are;
+    made = is.made;
     printed = subst (λ (count : (Ending → Bool) → ℕ). Appends old new (histogram_text test count listed)) counts printed;
     stands = stands ∙ ap (histogram_status test) counts;
   }
@@ -160,12 +163,13 @@ module _ (test : LitmusTest) (settings : Settings) (image : ProgramImage) (watch
   all_listed (core ∷ cores) are = (one_listed core are.0, all_listed cores are.1)
 
   -- What the command comes to where the states are all.
-  pub histogram_told : (command : LitmusCommand) (times : ℕ) (Put : List ℕ → Type 0) (old new : Option (List ℕ))
+  pub histogram_told : (command : LitmusCommand) (times : ℕ) (Made : List CoreView → Type 0) (Put : List ℕ → Type 0)
+      (old new : Option (List ℕ))
       → IsSearched test image watch → KeepsImage test command image Put
       → InEachSetup image (length test.threads.items) (λ setup. IsExactList setup watch found) → IsOnce found
-      → (status : ℕ) → HasCounted test settings image watch found.listed (runs_of times) old new status
-      → PrintsHistogram test settings command times Put old new status
-  histogram_told command times Put old new searched is_kept all once status counted = record {
+      → (status : ℕ) → HasCounted test settings image watch found.listed (runs_of times) Made old new status
+      → PrintsHistogram test settings command times Made Put old new status
+  histogram_told command times Made Put old new searched is_kept all once status counted = record {
     image = image;
     watch = watch;
     searched = searched;
@@ -183,22 +187,22 @@ module _ (test : LitmusTest) (settings : Settings) (image : ProgramImage) (watch
 -- ---- What it comes to, and what is refused
 
 module _ (test : LitmusTest) (settings : Settings) (command : LitmusCommand) (image : ProgramImage) (watch : Watch)
-    (Put : List ℕ → Type 0) (is_kept : KeepsImage test command image Put) where
+    (Made : List CoreView → Type 0) (Put : List ℕ → Type 0) (is_kept : KeepsImage test command image Put) where
   pub all_counted : (found : Found) (times : ℕ) → settings.config.harts ≡ length test.threads.items
       → IsSearched test image watch
       → InEachSetup image (length test.threads.items) (λ setup. IsExactList setup watch found)
       → InEachSetup image (length test.threads.items) (λ setup. CoversCores setup watch found) → IsOnce found
       → (old new : Option (List ℕ)) (answer : Result ℕ Refused)
-      → IfOk answer (HasCounted test settings image watch found.listed (runs_of times) old new)
-      → IfOk answer (RunsComeTo test settings command times Put old new)
+      → IfOk answer (HasCounted test settings image watch found.listed (runs_of times) Made old new)
+      → IfOk answer (RunsComeTo test settings command times Made Put old new)
   all_counted found times harts searched all covers once old new (Ok status) counted = inl
-      (histogram_told test settings image watch found harts covers command times Put old new searched is_kept all once
-      status counted)
+      (histogram_told test settings image watch found harts covers command times Made Put old new searched is_kept all
+      once status counted)
   all_counted found times harts searched all covers once old new (Err why) counted = tt
 
   pub more_counted : (harts : ℕ) → harts ≡ length test.threads.items → IsSearched test image watch → (times : ℕ)
       (old new : Option (List ℕ)) → IsBeyond image harts command.states
-      → Appends old new (incomplete_text command.states) → RunsComeTo test settings command times Put old new 3
+      → Appends old new (incomplete_text command.states) → RunsComeTo test settings command times Made Put old new 3
   more_counted harts count searched times old new beyond printed = inr (record {
     image = image;
     watch = watch;
@@ -213,3 +217,39 @@ pub want_refused : (settings : Settings) (why : Refused) → IsWant why → IsRu
 want_refused settings reasons.Memory is = tt
 want_refused settings reasons.Output is = tt
 want_refused settings _ is = absurd is
+
+-- Whatever is said of how the cores were made.
+pub runs_anyhow : (text : List ℕ) (settings : Settings) (command : LitmusCommand) (times : ℕ)
+    (Made : List CoreView → Type 0) (Put : List ℕ → Type 0) (old new : Option (List ℕ)) (answer : Result ℕ Refused)
+    → IfOk answer (TestRunsComeTo text settings command times Made Put old new)
+    → IfOk answer (TestRunsComeTo text settings command times (λ cores. Unit {0}) Put old new)
+runs_anyhow text settings command times Made Put old new (Err why) ended = tt
+runs_anyhow text settings command times Made Put old new (Ok status) ended = record {
+  test = ended.test;
+  is_text = ended.is_text;
+  well_formed = ended.well_formed;
+  comes = elim ended.comes [
+    | inl all ↦ inl (record {
+      image = all.image;
+      watch = all.watch;
+      searched = all.searched;
+      kept = all.kept;
+      found = all.found;
+      all = all.all;
+      covers = all.covers;
+      once = all.once;
+      counted = record {
+        accepted = all.counted.accepted;
+        manned = all.counted.manned;
+        cores = all.counted.cores;
+        many = all.counted.many;
+        are = all.counted.are;
+        made = tt;
+        printed = all.counted.printed;
+        stands = all.counted.stands;
+      };
+      adds_up = all.adds_up;
+    })
+    | inr more ↦ inr more
+  ];
+}

@@ -5,6 +5,7 @@ pub mod NamedAsks
 pub mod Prompt
 pub mod Run
 pub mod Watching
+pub mod Making
 pub mod Stress
 pub mod TestRuns
 pub mod Check

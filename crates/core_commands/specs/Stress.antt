@@ -3,8 +3,7 @@
 use Rattle.std.specs.Prelude.{◌≡◌, ◌⊎◌, ℕ, max, Bool, true, false, List, [], ◌∷◌, ◌++◌, Option, Some, None, length, map}
 use Rattle.std.specs.{Io.KnownBytes.Appends, List.AllByRecursion}
 use Rattle.elf_image.specs.Image.{ProgramImage}
-use Rattle.core_state.specs.{Setup.setup_of, View.CoreView}
-use Rattle.smt_core.specs.Shown.{Shown}
+use Rattle.core_state.specs.View.{CoreView}
 use Rattle.sim_inputs.specs.{declared.settings.Settings.Settings, declared.line.RunCommand.RunCommand}
 use Rattle.stress_runs.specs.declared.keeping.Part.{Part}
 use Rattle.stress_runs.specs.declared.tally.Row.{Row}
@@ -17,19 +16,13 @@ use Rattle.outcome_queries.specs.{declared.watched.Asked.Asked, Watches.register
 use Rattle.outcome_queries.specs.declared.question.Question.{Question}
 use Rattle.command_parts.specs.{Refused.AreAccepted, declared.refused.Refused.Refused}
 use Rattle.command_parts.specs.declared.refused.Refused.TheVariants as reasons
-use Rattle.core_commands.specs.{Account.kept_story, Run.LackARole, Run.IsRunRefusal}
+use Rattle.core_commands.specs.{Account.kept_story, Making.IsOneRun, Run.LackARole, Run.IsRunRefusal}
 use Rattle.plain_commands.specs.{Outcomes.IsWatchOf, Questions.status_of_answer}
 use Rattle.core_commands.specs.Watching.{IsAsking, IsAllThere, IsAskedRefusal, IsAbsentOf}
 
 -- How many runs are made: as many as are asked for, and one at least.
 abbrev pub runs_of : ℕ → ℕ
 runs_of times = max times 1
-
--- A core of this image and these settings, one of those that may be shown.
-pub record IsOneRun (settings : Settings) (image : ProgramImage) (core : CoreView) : Type 0 where
-  pub setup : core.setup ≡ setup_of image settings.config
-  pub limit : core.limit ≡ settings.limit
-  pub shown : Shown core
 
 -- What is told of a tally: its table, and behind it what it answers to the question, where one is asked. The answer
 -- decides the exit status then; else it is that of the worst run.
@@ -46,11 +39,11 @@ stress_status watch None tally = tally.status
 stress_status watch (Some question) tally = status_of_answer (sampled_answer watch question tally.rows)
 
 -- What the command comes to. No role is without an actor. What the question and the list ask for is watched, and is
--- there. There are the cores of so many runs, the newest first. Where that is wanted, the core with which an end came
--- first is kept in the files of that end (`Kept`). What was printed is the table of their ends, each with what is watched
+-- there. There are the cores of so many runs, the newest first, each of which was made for this (`Made`). Where that is
+-- wanted, the core with which an end came first is kept in the files of that end (`Kept`). What was printed is the table of their ends, each with what is watched
 -- of it, and the answer; the exit status goes with that.
 pub record StressComesTo (settings : Settings) (image : ProgramImage) (names : Table) (run : RunCommand) (times : ℕ)
-    (Kept : Watch → List CoreView → Type 0) (old new : Option (List ℕ)) (exit_status : ℕ) : Type 0 where
+    (Made : List CoreView → Type 0) (Kept : Watch → List CoreView → Type 0) (old new : Option (List ℕ)) (exit_status : ℕ) : Type 0 where
   pub accepted : AreAccepted settings
   pub manned : LackARole settings → ⊥
   pub question : Option Question
@@ -62,6 +55,7 @@ pub record StressComesTo (settings : Settings) (image : ProgramImage) (names : T
   pub cores : List CoreView
   pub many : length cores ≡ runs_of times
   pub are : AllByRecursion (IsOneRun settings image) cores
+  pub made : Made cores
   pub kept : Kept watch cores
   pub printed : Appends old new
       (stress_text all watch question (runs_of times) (tally_of (map (end_of watch) cores)))
@@ -85,23 +79,25 @@ IsStressRefusal settings image names run reason = IsRunRefusal settings reason
 -- ---- The parts of it
 
 -- The tally is that of so many runs, of which this is watched.
-pub record HasTallied (settings : Settings) (image : ProgramImage) (watch : Watch) (Kept : List CoreView → Type 0)
+pub record HasTallied (settings : Settings) (image : ProgramImage) (watch : Watch) (Made Kept : List CoreView → Type 0)
     (runs : ℕ) (tally : TallyView) : Type 0 where
   pub accepted : AreAccepted settings
   pub manned : LackARole settings → ⊥
   pub cores : List CoreView
   pub many : length cores ≡ runs
   pub are : AllByRecursion (IsOneRun settings image) cores
+  pub made : Made cores
   pub kept : Kept cores
   pub tallied : tally ≡ tally_of (map (end_of watch) cores)
 
 -- One more run was made and counted, and kept where that is wanted and its end was new (`Kept`).
 pub record HasRunOnce (settings : Settings) (image : ProgramImage) (watch : Watch)
-    (Kept : List Row → CoreView → Type 0) (old new : TallyView) : Type 0 where
+    (Made : CoreView → Type 0) (Kept : List Row → CoreView → Type 0) (old new : TallyView) : Type 0 where
   pub accepted : AreAccepted settings
   pub manned : LackARole settings → ⊥
   pub core : CoreView
   pub is : IsOneRun settings image core
+  pub made : Made core
   pub counted : Counts (end_of watch core) old new
   pub kept : Kept old.rows core
 

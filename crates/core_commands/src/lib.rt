@@ -2,7 +2,7 @@
 //!
 //! Read in this order: `wanted` (what is wanted of a core), `core_story` (the story of one), `account` (what is
 //! reported of one), then a module a command: `step`, `prompt` (the same of a script that is typed), `run`, `watching`
-//! (what is watched of many runs), `stress` (many runs), `test_runs` (many runs of
+//! (what is watched of many runs), `making` (one of many runs), `stress` (many runs), `test_runs` (many runs of
 //! a litmus test), `check`, `script`, `chart` and `migrate`. What each command
 //! comes to, and when each of its refusals comes, stands in `specs` under the command's name.
 #![tactic(auto)]
@@ -13,6 +13,7 @@ mod chart_ends;
 mod check;
 mod core_story;
 mod judgement;
+mod making;
 mod migrate;
 mod named_asks;
 mod prompt;
@@ -28,6 +29,7 @@ mod why;
 pub use chart::perform_chart;
 pub use check::perform_check;
 pub use judgement::perform_judgement;
+pub use making::make_run;
 pub use migrate::perform_migrate;
 pub use prompt::perform_prompt;
 pub use run::{perform_run, run_bytes};

@@ -12,9 +12,9 @@ ghost use Rattle.watched_outcomes.specs.declared.watch.Watch.{Watch as AnyWatch}
 ghost use Rattle.core_commands.specs.Watching.{IsAllThere};
 ghost use Rattle.core_commands.specs.Stress.{StressComesTo, HasTallied, HasRunOnce, IsStressRefusal, runs_of};
 ghost use Rattle.core_commands.specs.Stress.{AreEndsWritten, IsEndWritten, answer_told, stress_status, stress_text};
+ghost use Rattle.core_commands.specs.Making.{AreMade, LeavesCore, MakesRuns};
 
 use crate::core_story::kept_story;
-use crate::run::run_image;
 use crate::watching::{asking_of, see_watched};
 use actors::Gate;
 use command_parts::{Context, Refused};
@@ -22,16 +22,14 @@ use elf_image::Image;
 use outcome_queries::{Question, WatchList, columns_of, watch_of};
 use plain_commands::status_of_answer;
 use sim_inputs::{RunCommand, Settings};
-use smt_core::{Core, Predict};
+use smt_core::Core;
 use std::alloc::{AllocError, Global};
 use std::io::Write;
-use std::sync::Wait;
-use std::thread::Threads;
 use stress_runs::{EndFiles, Tally, keep_end, report_answer, report_tally, sampled_answer};
 use symbols::Symbols;
 use watched_outcomes::Watch;
 
-/// Makes so many runs of an image (one, where that is 0), each with a thread for each actor, counts
+/// Has so many runs made of an image (one, where that is 0), each by a call of `make_run` of its own, counts
 /// how often each end came, and writes the table of the ends, and behind it what they answer to the command's
 /// question. What the list and the question of the command ask for tells ends apart too, as it stands when a run
 /// has ended. Where ends are kept, the trace, the order and the story of the run with which an end came first are
@@ -44,25 +42,29 @@ use watched_outcomes::Watch;
 /// and no other run is made.
 #[inline(never)]
 pub fn perform_stress<
-    G: Gate + Sync,
-    P: Predict + Copy + Send,
+    R,
+    G: Gate,
+    P,
     F: EndFiles,
     W: Write,
-    R: Threads + Wait + Sync,
+    M: FnMut(&Image, &Settings) -> Result<Core, Refused>,
 >(
     context: &mut Context<'_, R, G, P, F, W>,
+    make_run: &mut M,
     image: &Image,
     settings: &Settings,
     names: &Symbols<'_>,
     command: &RunCommand<'_>,
     times: u32,
 ) -> Result<u8, Refused>
+    requires callable { M.IsAlwaysCallable make_run.old }
+    requires makes { MakesRuns M.step }
     requires works { F.has_failed context.old.files ≡ false }
     requires finished { F.is_finished context.old.files ≡ true }
     ensures refused { IfErr result
         (IsStressRefusal settings.now image.now (table_of names.now) command.now) }
     ensures ended { IfOk result (StressComesTo settings.now image.now (table_of names.now) command.now times
-        (AreEndsWritten F.begins F.written F.has_failed context.old.files context.new.files (is_some command.now.keep)
+        (AreMade (LeavesCore M.step) make_run.old make_run.new) (AreEndsWritten F.begins F.written F.has_failed context.old.files context.new.files (is_some command.now.keep)
         (table_of names.now)) (W.contents context.old.out) (W.contents context.new.out)) }
     ensures unwanted { is_some command.now.keep ≡ false → context.new.files ≡ context.old.files }
     ensures unbroken { OnOk result (F.has_failed context.new.files ≡ false) }
@@ -83,6 +85,7 @@ pub fn perform_stress<
     let count = runs_of(times);
     let tally = match tally_runs(
         context,
+        make_run,
         image,
         settings,
         names,
@@ -149,15 +152,17 @@ fn report_asked<W: Write>(
     }
 }
 
-/// Makes so many runs, which the gate is shown, and counts their ends.
+/// Has so many runs made, which the gate is shown, and counts their ends.
 pub(crate) fn tally_runs<
-    G: Gate + Sync,
-    P: Predict + Copy + Send,
+    R,
+    G: Gate,
+    P,
     F: EndFiles,
     W: Write,
-    R: Threads + Wait + Sync,
+    M: FnMut(&Image, &Settings) -> Result<Core, Refused>,
 >(
     context: &mut Context<'_, R, G, P, F, W>,
+    make_run: &mut M,
     image: &Image,
     settings: &Settings,
     names: &Symbols<'_>,
@@ -165,13 +170,15 @@ pub(crate) fn tally_runs<
     count: u32,
     keep: bool,
 ) -> Result<Tally, Refused>
+    requires callable { M.IsAlwaysCallable make_run.old }
+    requires makes { MakesRuns M.step }
     requires some { 1 ≤ count }
     requires there { IsAllThere image.now settings.now.config.harts watch.now }
     requires works { F.has_failed context.old.files ≡ false }
     requires finished { F.is_finished context.old.files ≡ true }
     ensures refused { IfErr result (IsRunRefusal settings.now) }
     ensures tallied { IfOk result (HasTallied settings.now image.now watch.now
-        (AreEndsWritten F.begins F.written F.has_failed context.old.files context.new.files keep (table_of names.now)
+        (AreMade (LeavesCore M.step) make_run.old make_run.new) (AreEndsWritten F.begins F.written F.has_failed context.old.files context.new.files keep (table_of names.now)
         watch.now) count) }
     ensures unwanted { keep ≡ false → context.new.files ≡ context.old.files }
     ensures unbroken { OnOk result (F.has_failed context.new.files ≡ false) }
@@ -179,17 +186,14 @@ pub(crate) fn tally_runs<
     ensures unprinted { context.new.out ≡ context.old.out }
 {
     let runs = Runs {
-        rt: context.rt,
         image,
         settings,
         names,
         watch,
-        gate: context.gate,
-        predict: context.predict,
         alloc: context.alloc,
     };
     context.gate.begin_all(count);
-    let tallied = runs.tally(count, keep, &mut context.files);
+    let tallied = runs.tally(count, keep, make_run, &mut context.files);
     context.gate.end_all();
     tallied
 }
@@ -202,73 +206,75 @@ pub(crate) fn runs_of(times: u32) -> u32
     if times == 0 { 1 } else { times }
 }
 
-/// What each of the runs is made of.
+/// What the runs are of, and what is looked at where one has ended.
 #[derive(Drop)]
-struct Runs<'a, G, P, R> {
-    rt: &'a R,
+struct Runs<'a> {
     image: &'a Image,
     settings: &'a Settings,
     names: &'a Symbols<'a>,
     watch: &'a Watch,
-    gate: &'a G,
-    predict: P,
     alloc: Global,
 }
 
-impl<G: Gate + Sync, P: Predict + Copy + Send, R: Threads + Wait + Sync> Runs<'_, G, P, R> {
-    /// Makes so many runs, and counts their ends.
-    fn tally<F: EndFiles>(&self, count: u32, keep: bool, files: &mut F) -> Result<Tally, Refused>
+impl Runs<'_> {
+    /// Has so many runs made, and counts their ends.
+    fn tally<F: EndFiles, M: FnMut(&Image, &Settings) -> Result<Core, Refused>>(
+        &self,
+        count: u32,
+        keep: bool,
+        make_run: &mut M,
+        files: &mut F,
+    ) -> Result<Tally, Refused>
+        requires callable { M.IsAlwaysCallable make_run.old }
+        requires makes { MakesRuns M.step }
         requires some { 1 ≤ count }
         requires there { IsAllThere self.now.image.now self.now.settings.now.config.harts self.now.watch.now }
         requires works { F.has_failed files.old ≡ false }
         requires finished { F.is_finished files.old ≡ true }
         ensures refused { IfErr result (IsRunRefusal self.now.settings.now) }
         ensures tallied { IfOk result (HasTallied self.now.settings.now self.now.image.now self.now.watch.now
-            (AreEndsWritten F.begins F.written F.has_failed files.old files.new keep (table_of self.now.names.now)
+            (AreMade (LeavesCore M.step) make_run.old make_run.new) (AreEndsWritten F.begins F.written F.has_failed files.old files.new keep (table_of self.now.names.now)
             self.now.watch.now) count) }
         ensures unwanted { keep ≡ false → files.new ≡ files.old }
         ensures unbroken { OnOk result (F.has_failed files.new ≡ false) }
         ensures finished { OnOk result (F.is_finished files.new ≡ true) }
     {
         let mut tally = Tally::new(self.alloc);
-        self.run_once(keep, &mut tally, files)?;
+        self.run_once(keep, make_run, &mut tally, files)?;
         for _run in 1..count {
-            self.run_once(keep, &mut tally, files)?;
+            self.run_once(keep, make_run, &mut tally, files)?;
         }
         Ok(tally)
     }
 
-    /// Makes one run, counts its end, and has it kept where that is the first run to end so.
-    fn run_once<F: EndFiles>(
+    /// Has one run made, counts its end, and has it kept where that is the first run to end so.
+    fn run_once<F: EndFiles, M: FnMut(&Image, &Settings) -> Result<Core, Refused>>(
         &self,
         keep: bool,
+        make_run: &mut M,
         tally: &mut Tally,
         files: &mut F,
     ) -> Result<(), Refused>
+        requires callable { M.IsAlwaysCallable make_run.old }
+        requires makes { MakesRuns M.step }
         requires there { IsAllThere self.now.image.now self.now.settings.now.config.harts self.now.watch.now }
         requires works { F.has_failed files.old ≡ false }
         requires finished { F.is_finished files.old ≡ true }
         ensures refused { IfErr result (IsRunRefusal self.now.settings.now) }
+        ensures callable { M.IsAlwaysCallable make_run.new }
         ensures ran { OnOk result (HasRunOnce self.now.settings.now self.now.image.now self.now.watch.now
-            (IsEndWritten F.begins F.written F.has_failed files.old files.new keep (table_of self.now.names.now)
+            (λ core. LeavesCore M.step make_run.old core make_run.new) (IsEndWritten F.begins F.written F.has_failed files.old files.new keep (table_of self.now.names.now)
             self.now.watch.now) tally.old tally.new) }
         ensures unwanted { keep ≡ false → files.new ≡ files.old }
         ensures unbroken { OnOk result (F.has_failed files.new ≡ false) }
         ensures finished { OnOk result (F.is_finished files.new ≡ true) }
     {
-        let finished = run_image(
-            self.rt,
-            self.image,
-            self.settings,
-            self.gate,
-            self.predict,
-            self.alloc,
-        )?;
-        let number = match tally.count(&finished.core, self.watch, self.alloc) {
+        let core = make_run(self.image, self.settings)?;
+        let number = match tally.count(&core, self.watch, self.alloc) {
             Ok(number) => number,
             Err(AllocError) => return Err(Refused::Memory),
         };
-        keep_first(keep, number, &finished.core, self.names, files, self.alloc)
+        keep_first(keep, number, &core, self.names, files, self.alloc)
     }
 }
 

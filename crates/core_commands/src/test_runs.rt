@@ -11,6 +11,7 @@ ghost use Rattle.command_parts.specs.declared.refused.Refused.TheVariants.{Outpu
 ghost use Rattle.core_commands.specs.{Stress.runs_of, Watching.IsAllThere};
 ghost use Rattle.core_commands.specs.TestRuns.{HasCounted, IsTestRunsRefusal, IsRunsRefusal, RunsComeTo, TestRunsComeTo};
 ghost use Rattle.core_commands.specs.TestRuns.{histogram_status};
+ghost use Rattle.core_commands.specs.Making.{AreMade, LeavesCore, MakesRuns};
 
 use crate::stress::{runs_of, tally_runs};
 use actors::Gate;
@@ -23,10 +24,8 @@ use outcome_text::write_incomplete;
 use outcomes::{Extent, Outcomes};
 use plain_commands::{find_shown, put_image, settings_for, test_of};
 use sim_inputs::{LitmusCommand, Settings};
-use smt_core::Predict;
+use smt_core::Core;
 use std::io::Write;
-use std::sync::Wait;
-use std::thread::Threads;
 use stress_runs::{EndFiles, Tally};
 use symbols::Symbols;
 use watched_outcomes::Watch;
@@ -35,22 +34,27 @@ use watched_outcomes::Watch;
 /// none is refused first.
 #[inline(never)]
 pub fn perform_test_runs<
-    G: Gate + Sync,
-    P: Predict + Copy + Send,
+    R,
+    G: Gate,
+    P,
     S: EndFiles,
     W: Write,
-    R: Threads + Wait + Sync,
+    M: FnMut(&Image, &Settings) -> Result<Core, Refused>,
 >(
     context: &mut Context<'_, R, G, P, S, W>,
+    make_run: &mut M,
     text: &[u8],
     command: &LitmusCommand<'_>,
     settings: Settings,
     times: u32,
 ) -> Result<u8, Refused>
+    requires callable { M.IsAlwaysCallable make_run.old }
+    requires makes { MakesRuns M.step }
     requires works { S.has_failed context.old.files ≡ false }
     requires finished { S.is_finished context.old.files ≡ true }
     ensures refused { IfErr result (IsTestRunsRefusal text.now settings) }
     ensures ended { IfOk result (TestRunsComeTo text.now settings command.now times
+        (AreMade (LeavesCore M.step) make_run.old make_run.new)
         (HasPut S.written S.has_failed context.old.files context.new.files)
         (W.contents context.old.out) (W.contents context.new.out)) }
     ensures unwanted { is_some (written_for_test command.now) ≡ false → context.new.files ≡ context.old.files }
@@ -64,14 +68,14 @@ pub fn perform_test_runs<
         Err(refused) => return Err(refused),
     };
     let settings = settings_for(settings, &test);
-    match run_test(context, &test, &settings, command, times) {
+    match run_test(context, make_run, &test, &settings, command, times) {
         Ok(status) => Ok(status),
         Err(refused) => Err(refused),
     }
 }
 
-/// Finds every final state of a litmus test, and where these are all makes so many runs of its image on the core of some
-/// settings, each with a thread for each actor, and prints to which states they come and how often. The image goes into
+/// Finds every final state of a litmus test, and where these are all has so many runs made of its image on the core of
+/// some settings, each by a call of `make_run` of its own, and prints to which states they come and how often. The image goes into
 /// the context's files before all that, where it is wanted.
 ///
 /// Answers the exit status: 0, or 3 where a run hasn't ended, or where there are more states than were to be looked at;
@@ -79,24 +83,29 @@ pub fn perform_test_runs<
 /// where the files or the output took no more; then nothing is printed.
 #[inline(never)]
 fn run_test<
-    G: Gate + Sync,
-    P: Predict + Copy + Send,
+    R,
+    G: Gate,
+    P,
     S: EndFiles,
     W: Write,
-    R: Threads + Wait + Sync,
+    M: FnMut(&Image, &Settings) -> Result<Core, Refused>,
 >(
     context: &mut Context<'_, R, G, P, S, W>,
+    make_run: &mut M,
     test: &LitmusTest,
     settings: &Settings,
     command: &LitmusCommand<'_>,
     times: u32,
 ) -> Result<u8, Refused>
+    requires callable { M.IsAlwaysCallable make_run.old }
+    requires makes { MakesRuns M.step }
     requires sound { IsWellFormed test.now }
     requires harts { settings.now.config.harts ≡ length test.now.threads.items }
     requires works { S.has_failed context.old.files ≡ false }
     requires finished { S.is_finished context.old.files ≡ true }
     ensures refused { IfErr result (IsRunsRefusal settings.now) }
     ensures ended { IfOk result (RunsComeTo test.now settings.now command.now times
+        (AreMade (LeavesCore M.step) make_run.old make_run.new)
         (HasPut S.written S.has_failed context.old.files context.new.files)
         (W.contents context.old.out) (W.contents context.new.out)) }
     ensures unwanted { is_some command.now.image ≡ false → context.new.files ≡ context.old.files }
@@ -125,7 +134,11 @@ fn run_test<
         alloc,
     ) {
         Ok(outcomes) => match outcomes.extent() {
-            Extent::Whole => count_runs(context, test, &image, settings, &watch, &outcomes, times),
+            Extent::Whole => {
+                count_runs(
+                    context, make_run, test, &image, settings, &watch, &outcomes, times,
+                )
+            }
             Extent::Beyond | Extent::First => match write_incomplete(
                 command.states,
                 &mut context.out,
@@ -139,16 +152,18 @@ fn run_test<
     }
 }
 
-/// Makes so many runs of a test's image, and prints to which of these outcomes they come.
+/// Has so many runs made of a test's image, and prints to which of these outcomes they come.
 #[inline(never)]
 fn count_runs<
-    G: Gate + Sync,
-    P: Predict + Copy + Send,
+    R,
+    G: Gate,
+    P,
     S: EndFiles,
     W: Write,
-    R: Threads + Wait + Sync,
+    M: FnMut(&Image, &Settings) -> Result<Core, Refused>,
 >(
     context: &mut Context<'_, R, G, P, S, W>,
+    make_run: &mut M,
     test: &LitmusTest,
     image: &Image,
     settings: &Settings,
@@ -156,18 +171,22 @@ fn count_runs<
     outcomes: &Outcomes,
     times: u32,
 ) -> Result<u8, Refused>
+    requires callable { M.IsAlwaysCallable make_run.old }
+    requires makes { MakesRuns M.step }
     requires sound { IsWellFormed test.now }
     requires there { IsAllThere image.now settings.now.config.harts watch.now }
     requires works { S.has_failed context.old.files ≡ false }
     requires finished { S.is_finished context.old.files ≡ true }
     ensures refused { IfErr result (IsRunsRefusal settings.now) }
     ensures counted { IfOk result (HasCounted test.now settings.now image.now watch.now outcomes.now.listed
-        (runs_of times) (W.contents context.old.out) (W.contents context.new.out)) }
+        (runs_of times) (AreMade (LeavesCore M.step) make_run.old make_run.new) (W.contents context.old.out) (W.contents context.new.out)) }
     ensures unwanted { context.new.files ≡ context.old.files }
 {
     let names = Symbols::none(context.alloc);
     let count = runs_of(times);
-    let tally = match tally_runs(context, image, settings, &names, watch, count, false) {
+    let tally = match tally_runs(
+        context, make_run, image, settings, &names, watch, count, false,
+    ) {
         Ok(tally) => tally,
         Err(refused) => return Err(refused),
     };

@@ -1,10 +1,12 @@
 //! Whole lines of the program: what each command prints and how it ends. Beside the modules of the
 //! commands stand what is owed of each ask of a script (`script_lines`), traces that are written
 //! (`trace_files`), which loads look again (`looks`), the story of a core (`stories_of_cores`), inputs
-//! that are refused (`refusals`), and actors that work side by side (`meeting`).
+//! that are refused (`refusals`), how often runs are made (`counted_runs`), and actors that work side
+//! by side (`meeting`).
 
 mod chart;
 mod check;
+mod counted_runs;
 mod explain;
 mod list;
 mod litmus;

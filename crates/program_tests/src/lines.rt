@@ -252,7 +252,12 @@ pub fn outcomes_line(states: u32) -> Line<'static> {
 
 /// The final states of a litmus test, and why its condition holds of none.
 pub fn litmus_line(why: bool) -> Line<'static> {
-    line!(Command::Litmus(LitmusCommand {
+    line!(Command::Litmus(litmus_command(why)))
+}
+
+/// The same as its command.
+pub fn litmus_command(why: bool) -> LitmusCommand<'static> {
+    LitmusCommand {
         test: "test",
         states: 1_000_000,
         why,
@@ -269,5 +274,5 @@ pub fn litmus_line(why: bool) -> Line<'static> {
         summary: false,
         expect: None,
         several: false,
-    },))
+    }
 }

@@ -1,4 +1,5 @@
 use Rattle.symbols.specs.Tables.{table_of}
+use Rattle.core_commands.proofs.OfStress.{stress_anyhow}
 use Rattle.commands.proofs.OfRuns.{many_performed}
 use Rattle.commands.proofs.runs.perform_runs.Goals as goal
 
@@ -8,4 +9,7 @@ returns-in-Some g c = λ lines second same.
     many_performed g.S.EndFiles.begins g.S.Sink.written g.S.Sink.has_failed _ _ c.args.run.now c.args.settings.now
     c.args.image.now (table_of c.args.names.now) lines second _ _ c.perform_stress.result did.unbroken
     g.S.EndFiles.is_finished
-    did.finished did.unreported _ c.in-Some.is did.refused did.ended did.unwanted
+    did.finished did.unreported _ c.in-Some.is did.refused
+    (stress_anyhow c.args.settings.now c.args.image.now (table_of c.args.names.now) c.args.run.now c.in-Some.times _ _ _ _
+    c.perform_stress.result did.ended)
+    did.unwanted

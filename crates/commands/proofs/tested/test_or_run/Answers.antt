@@ -1,4 +1,5 @@
 use Rattle.event_text.specs.Sinking.{HasPut}
+use Rattle.core_commands.proofs.OfTestRuns.{runs_anyhow}
 use Rattle.commands.proofs.OfTest.{run_ended, run_refused}
 use Rattle.commands.proofs.tested.test_or_run.Goals as goal
 
@@ -12,4 +13,6 @@ returns-in-Some-clause-ended g c =
     run_ended c.args.litmus.now.run c.in-Some.times c.in-Some.is c.args.text.now c.args.settings c.args.litmus.now
     (HasPut g.S.Sink.written g.S.Sink.has_failed c.args.context.now.files c.perform_test_runs.new.context.files)
     (g.W.Write.contents c.args.context.now.out) (g.W.Write.contents c.perform_test_runs.new.context.out)
-    c.perform_test_runs.result c.perform_test_runs.ensures.ended
+    c.perform_test_runs.result
+    (runs_anyhow c.args.text.now c.args.settings c.args.litmus.now c.in-Some.times _ _ _ _ c.perform_test_runs.result
+    c.perform_test_runs.ensures.ended)

@@ -4,6 +4,7 @@ use Rattle.core_state.specs.{View.CoreView}
 use Rattle.symbols.specs.Tables.{table_of}
 use Rattle.watched_outcomes.specs.declared.watch.Watch.{Watch}
 use Rattle.core_commands.specs.Stress.{AreEndsWritten}
+use Rattle.core_commands.specs.Making.{AreMade, LeavesCore}
 use Rattle.core_commands.proofs.OfStress.{absent_refused, output_refused, stress_ended, watches_lent}
 use Rattle.core_commands.proofs.stress.perform_stress.Goals as goal
 
@@ -22,7 +23,9 @@ returns-clause-ended g c =
     g.F.Sink.has_failed c.args.context.now.files c.tally_runs.new.context.files keep names in
     let watches = watches_lent c.watch_of-watch.result _ _ c.as_slice.ensures.value c.watch_of-watch.ensures.registers
     c.watch_of-watch.ensures.words in
-    stress_ended c.args.settings.now c.args.image.now names c.args.command.now c.args.times kept
+    let made : List CoreView → Type 0 =
+    AreMade (LeavesCore (goal.M-step g)) c.args.make_run.now c.tally_runs.new.make_run in
+    stress_ended c.args.settings.now c.args.image.now names c.args.command.now c.args.times made kept
     c.in-Ok.asking.question c.in-Ok.asking.all.items c.watch_of-watch.result _
     (g.W.Write.contents c.tally_runs.new.context.out) (g.W.Write.contents c.args.context.now.out)
     (g.W.Write.contents c.report_runs.new.out) _ c.is_some.result _ c.in-Ok.ensures.asking watches

@@ -4,10 +4,11 @@ use Rattle.std.proofs.Common.{ℕ, sym, subst, ◌∙◌}
 use Rattle.watched_outcomes.specs.Watching.{AreThere}
 use Rattle.plain_commands.proofs.OfLitmus.{beyond_of, image_kept, of_harts}
 use Rattle.core_commands.proofs.OfTestRuns.{all_counted, more_counted, want_refused}
+use Rattle.core_commands.specs.Making.{AreMade, LeavesCore}
 use Rattle.core_commands.proofs.test_runs.run_test.Goals as goal
 
 pub count_runs-requires-clause-there : goal.count_runs-requires-clause-there
-count_runs-requires-clause-there g c κs outlive =
+count_runs-requires-clause-there g c =
     let there = c.in-Ok-find_shown.ensures.present in
     record {
       registers = subst (λ (n : ℕ). AreThere n c.watch_of-watch.result) (c.harts_of-harts.ensures ∙ sym c.requires.harts)
@@ -25,6 +26,7 @@ returns-in-Whole-clause-ended g c =
     let found = c.in-Ok-find_shown.ensures in
     let whole = sym c.extent.ensures ∙ c.in-Whole.is in
     all_counted c.args.test.now c.args.settings.now c.args.command.now c.in-Ok.image c.watch_of-watch.result
+    (AreMade (LeavesCore (goal.M-step g)) c.args.make_run.now c.count_runs.new.make_run)
     (HasPut g.S.Sink.written g.S.Sink.has_failed c.args.context.now.files c.count_runs.new.context.files)
     (image_kept g.S.Sink.written g.S.Sink.has_failed c.args.context.now.files c.put_image.new.file
     c.count_runs.new.context.files c.args.test.now c.args.command.now c.in-Ok.image c.in-Ok-put_image.ensures.kept
@@ -43,6 +45,7 @@ returns-in-Ok-write_incomplete-clause-ended g c =
     let beyond = beyond_of c.in-Ok-find_shown.outcomes c.extent.result c.extent.ensures
     (λ first. (found.asked first).2) c.in-Beyond.is in
     more_counted c.args.test.now c.args.settings.now c.args.command.now c.in-Ok.image c.watch_of-watch.result
+    (AreMade (LeavesCore (goal.M-step g)) c.args.make_run.now c.args.make_run.now)
     (HasPut g.S.Sink.written g.S.Sink.has_failed c.args.context.now.files c.put_image.new.file)
     (λ wanted undrawn unordered. c.in-Ok-put_image.ensures.kept wanted)
     c.harts_of-harts.result c.harts_of-harts.ensures
