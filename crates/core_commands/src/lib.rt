@@ -30,7 +30,7 @@ pub use check::perform_check;
 pub use judgement::perform_judgement;
 pub use migrate::perform_migrate;
 pub use prompt::perform_prompt;
-pub use run::{perform_run, run_bytes};
+pub use run::{RunReport, perform_run, run_bytes};
 pub use script::perform_script;
 pub use step::{perform_step, step_bytes};
 pub use stress::perform_stress;
