@@ -20,6 +20,7 @@ pub mod static_predictor;
 mod turn_outcome;
 mod turns;
 
+pub use core_lock::{IdleAsks, Unlocked};
 pub use gate::{Gate, Open, Point};
 pub use refused::RunRefused;
 pub use running::run;

@@ -17,10 +17,10 @@ use crate::gate::Gate;
 use crate::refused::RunRefused;
 use crate::roles::has_every_role;
 use crate::start::start;
-use core_lock::{BOARD_WORDS, Board, LockedCore, Seat};
+use core_lock::{BOARD_WORDS, Board, LockedCore, Seat, Unlocked};
 use elf_image::Image;
 use numbers::sizes::MOST_ACTORS;
-use smt_core::{Config, Core, CoreRefused, Finished, Predict};
+use smt_core::{Config, Core, CoreRefused, Predict};
 use std::alloc::Global;
 use std::marker::Brand;
 use std::sync::Wait;
@@ -45,6 +45,8 @@ struct Plan<'a, G: Gate> {
 /// joined, also where the run is refused in between. Where it is refused for its configuration or
 /// its roles, or wants memory for its core, neither is called.
 ///
+/// What it finished with has the idle asks of each actor as the lock of the core has counted them.
+///
 /// `Config` is refused where the configuration or the limit isn't one of a core, and then `Roles`
 /// where no actor has some role, both before anything is asked of the core. `Memory` and `Thread`
 /// are refused where there isn't enough memory, and where a thread can't be started.
@@ -57,19 +59,22 @@ pub fn run<G: Gate + Sync, P: Predict + Copy + Send, R: Threads + Wait + Sync>(
     gate: &G,
     predict: P,
     alloc: Global,
-) -> Result<Finished, RunRefused>
+) -> Result<Unlocked, RunRefused>
     ensures config { (result ≡ Err refused.Config)
         ↔ (is_accepted (setup_of image.now config) limit ≡ false) }
     ensures roles { (result ≡ Err refused.Roles)
         ↔ (is_accepted (setup_of image.now config) limit ≡ true)
         × (HaveEveryRole config.roles.items → ⊥) }
-    ensures setup { IfOk result (λ finished. finished.core.setup ≡ setup_of image.now config) }
-    ensures limit { IfOk result (λ finished. finished.core.limit ≡ limit) }
-    ensures own { IfOk result (λ finished. IsTrue finished.own) }
-    ensures counted { IfOk result (λ finished. sum finished.counts ≡ length finished.core.past) }
-    ensures told { IfOk result
-        (λ finished. IsTrue finished.told → AreCounts finished.core.past finished.counts) }
-    ensures shown { IfOk result (λ finished. Shown finished.core) }
+    ensures setup { IfOk result
+        (λ unlocked. unlocked.finished.core.setup ≡ setup_of image.now config) }
+    ensures limit { IfOk result (λ unlocked. unlocked.finished.core.limit ≡ limit) }
+    ensures own { IfOk result (λ unlocked. IsTrue unlocked.finished.own) }
+    ensures counted { IfOk result
+        (λ unlocked. sum unlocked.finished.counts ≡ length unlocked.finished.core.past) }
+    ensures told { IfOk result (λ unlocked. IsTrue unlocked.finished.told
+        → AreCounts unlocked.finished.core.past unlocked.finished.counts) }
+    ensures idle { IfOk result (λ unlocked. unlocked.finished.idle ≡ unlocked.asks.each) }
+    ensures shown { IfOk result (λ unlocked. Shown unlocked.finished.core) }
 {
     // Each refusal is handed on as it is: a `?` would leave the prover to find what it becomes.
     match make_core(image, &config, limit, alloc) {
@@ -81,9 +86,9 @@ pub fn run<G: Gate + Sync, P: Predict + Copy + Send, R: Threads + Wait + Sync>(
                 gate,
             };
             gate.begin(limit);
-            let finished = run_actors(rt, core, &plan, predict, alloc);
+            let unlocked = run_actors(rt, core, &plan, predict, alloc);
             gate.end();
-            finished
+            unlocked
         }
         Err(refused) => Err(refused),
     }
@@ -96,10 +101,10 @@ fn run_actors<G: Gate + Sync, P: Predict + Copy + Send, R: Threads + Wait + Sync
     plan: &Plan<'_, G>,
     predict: P,
     alloc: Global,
-) -> Result<Finished, RunRefused>
+) -> Result<Unlocked, RunRefused>
     requires { core.setup ≡ setup_of plan.now.image.now plan.now.config.now }
     ensures refused { IfErr result (λ why. (why ≡ refused.Memory) ⊎ (why ≡ refused.Thread)) }
-    ensures ran { IfOk result (HasRun core) }
+    ensures ran { IfOk result (λ unlocked. HasRun core unlocked.finished) }
 {
     let (board, seats) = match Board::new(alloc) {
         Ok(board_and_seats) => board_and_seats,
@@ -161,7 +166,7 @@ fn run_core<
     plan: &Plan<'_, G>,
     predict: P,
     alloc: Global,
-) -> Result<Finished, RunRefused>
+) -> Result<Unlocked, RunRefused>
     requires name { blank.name ≡ N.name }
     requires parts { (blank.parts ≡ N.parts) × (N.parts ≡ most_actors) }
     requires origin { (core.setup ≡ N.setup) × (core.limit ≡ N.limit) }
@@ -169,7 +174,7 @@ fn run_core<
     requires seats { All (λ seat. board_of seat ≡ N.board) seats }
     requires image { core.setup ≡ setup_of plan.now.image.now plan.now.config.now }
     ensures refused { IfErr result (λ why. (why ≡ refused.Memory) ⊎ (why ≡ refused.Thread)) }
-    ensures ran { IfOk result (HasRun core) }
+    ensures ran { IfOk result (λ unlocked. HasRun core unlocked.finished) }
 {
     let (core, mut passes) = LockedCore::<N>::new(core, blank);
     let shared = Shared {
@@ -185,16 +190,15 @@ fn run_core<
     only_if(started, core.finish(passes, plan.image, plan.config))
 }
 
-/// What a run comes to: what its core finished with, where all of its threads were started.
-fn only_if(started: Result<(), RunRefused>, finished: Finished) -> Result<Finished, RunRefused>
+/// What a run comes to: what is left of its core, where all of its threads were started.
+fn only_if(started: Result<(), RunRefused>, unlocked: Unlocked) -> Result<Unlocked, RunRefused>
     ensures refused { IfErr result (λ why. started ≡ Err why) }
-    ensures finished { IfOk result (λ same. same ≡ finished) }
+    ensures unlocked { IfOk result (λ same. same ≡ unlocked) }
 {
     match started {
-        Ok(()) => Ok(finished),
+        Ok(()) => Ok(unlocked),
         Err(refused) => {
-            let Finished { core, .. } = finished;
-            let_go(core);
+            let_go(unlocked.finished.core);
             Err(refused)
         }
     }

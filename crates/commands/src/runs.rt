@@ -53,5 +53,9 @@ pub(crate) fn perform_runs<
         return perform_stress(context, &mut make, image, settings, names, run, times);
     }
     let wanted = Wanted::of_run(run);
-    perform_run(context, image, settings, wanted, labels)
+    // A refusal is handed on as it is: a `?` would leave the prover to find what it becomes.
+    match perform_run(context, image, settings, wanted, labels) {
+        Ok(report) => Ok(report.status),
+        Err(refused) => Err(refused),
+    }
 }

@@ -15,7 +15,7 @@ use Rattle.command_parts.specs.declared.refused.Refused.TheVariants.{Image, Memo
 use Rattle.command_parts.specs.Refused.{AreAccepted}
 use Rattle.address_labels.specs.Labels.{Marks}
 use Rattle.core_commands.specs.{Account.IsReported, Account.idle_of, Wanted.Wants}
-use Rattle.core_commands.specs.Run.{IsRunRefusal, RunComesTo, LackARole, run_refusal}
+use Rattle.core_commands.specs.Run.{IsRunRefusal, RunTells, LackARole, run_refusal}
 
 -- What a run's answer says of the sizes and of the roles.
 apart : {F A : Type 0} (finished : F) (why : RunRefused) → Ok finished ≡ Err why → A
@@ -93,24 +93,25 @@ report_refusal settings reason accepted manned (inr same) =
 pub never_image : (settings : Settings) (number : ℕ) → IsRunRefusal settings (Image number) → ⊥
 never_image settings number is = is
 
-pub comes_to : (settings : Settings) (image : ProgramImage) (wanted : Wants) (marks : Marks) (core : CoreView)
-    (idle : List ℕ)
-    (Traced : CoreView → Type 0) (old new : Option (List ℕ)) (exit_status : ℕ)
+pub tells : (settings : Settings) (image : ProgramImage) (wanted : Wants) (marks : Marks) (core : CoreView)
+    (idle told : List ℕ) (Traced : CoreView → Type 0) (old new : Option (List ℕ)) (exit_status : ℕ)
     → AreAccepted settings → (LackARole settings → ⊥)
     → core.setup ≡ setup_of image settings.config → core.limit ≡ settings.limit → Shown core
-    → Traced core → IsReported core (idle_of core idle) wanted marks old new exit_status
-    → RunComesTo settings image wanted marks Traced old new exit_status
-comes_to settings image wanted marks core idle Traced old new exit_status accepted manned setup limit shown traced
-    reported =
-    record {
-      accepted = accepted;
-      manned = manned;
-      core = core;
-      setup = setup;
-      limit = limit;
-      shown = shown;
-      traced = traced;
-      idle = idle;
-      printed = reported.printed;
-      harts = reported.harts;
-    }
+    → Traced core → IsReported core (idle_of core idle) wanted marks old new exit_status → idle ≡ told
+    → RunTells settings image wanted marks Traced old new told exit_status
+tells settings image wanted marks core idle told Traced old new exit_status accepted manned setup limit shown traced
+    reported are = (
+      record {
+        accepted = accepted;
+        manned = manned;
+        core = core;
+        setup = setup;
+        limit = limit;
+        shown = shown;
+        traced = traced;
+        idle = idle;
+        printed = reported.printed;
+        harts = reported.harts;
+      },
+      are,
+    )

@@ -32,7 +32,7 @@ pub use judgement::perform_judgement;
 pub use making::make_run;
 pub use migrate::perform_migrate;
 pub use prompt::perform_prompt;
-pub use run::{perform_run, run_bytes};
+pub use run::{RunReport, perform_run, run_bytes};
 pub use script::perform_script;
 pub use step::{perform_step, step_bytes};
 pub use stress::perform_stress;

@@ -1,5 +1,5 @@
--- What a pass counts of its actor, and when that is all that the history holds of it.
-use Rattle.std.specs.Prelude.{◌≡◌, ℕ, ◌+◌, List, Option, Some, None}
+-- What a pass counts of its actor, and when that is all that the history holds of it; how many asks were idle.
+use Rattle.std.specs.Prelude.{◌≡◌, ℕ, ◌+◌, List, Option, Some, None, slice_index_or, slice_set}
 use Rattle.std.specs.Io.Iter.{u64_saturate}
 use Rattle.numbers.specs.Sizes.{most_actors}
 use Rattle.events.specs.declared.event.Event.{Event}
@@ -26,6 +26,11 @@ more_idle idle (said.Event e) = idle
 more_idle idle (said.Job job e) = idle
 more_idle idle said.Stranger = idle
 more_idle idle said.Full = idle
+
+-- Such counts of all actors, each at its actor's place, after one more reply to an actor: an idle one is one more of
+-- that actor, and no other reply changes any.
+abbrev pub idle_after : ℕ → Said → List ℕ → List ℕ
+idle_after actor said idle = slice_set idle actor (more_idle (slice_index_or idle actor 0) said)
 
 -- The count and the last event are those of this actor in the history.
 pub record IsTold (past : List Event) (actor count : ℕ) (last : Option Event) : Type 0 where

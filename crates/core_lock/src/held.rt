@@ -1,11 +1,11 @@
 ghost use Rattle.std.specs.Prelude.{◌≡◌, ◌≤◌, ◌↔◌, ℕ, Bool, true, Some, IsTrue, IfSome};
-ghost use Rattle.std.specs.Prelude.{length, map, sum, slice_get};
+ghost use Rattle.std.specs.Prelude.{◌<◌, length, map, sum, slice_get, replicate};
 ghost use Rattle.numbers.specs.Sizes.{most_actors, most_events};
 ghost use Rattle.core_state.specs.Setup.{setup_of};
 ghost use Rattle.smt_model.specs.Account.{event_count, last_event_of};
 ghost use Rattle.core_lock.specs.Asks.{Replied, IsPredictedBy, asked_of, event_in, grown_by};
 ghost use Rattle.core_lock.specs.Asks.{is_reply};
-ghost use Rattle.core_lock.specs.Passes.{IsTold, more, more_idle, later, going_in, places};
+ghost use Rattle.core_lock.specs.Passes.{IsTold, more, later, going_in, places};
 ghost use Rattle.core_lock.specs.Steps.{HasStepped};
 ghost use Rattle.smt_core.specs.Shown.{Shown};
 
@@ -16,11 +16,13 @@ mod passes;
 mod replies;
 
 use crate::ask::{Ask, Asked, Said};
+use crate::idle::IdleAsks;
 use crate::origin::Origin;
 use crate::reader::CoreReader;
+use crate::unlocked::Unlocked;
 use agreement::{are_told, is_told};
 use asking::ask_core;
-use dealing::{counts_of, deal_four, gather, idle_of, made_of};
+use dealing::{counts_of, deal_four, gather, made_of};
 use elf_image::Image;
 use events::Event;
 use numbers::sizes::MOST_ACTORS;
@@ -28,14 +30,15 @@ use smt_core::{Config, Core, Finished, Predict, show};
 use std::marker::PhantomData;
 use std::sync::ledger::{Blank, Book, Ledger, Share};
 
-/// What stands behind the lock: the core, and the book in which the passes' counts add up to its
-/// events.
+/// What stands behind the lock: the core, the book in which the passes' counts add up to its events,
+/// and how many asks of each actor were answered `Said::Idle`.
 #[derive(Drop)]
 pub struct Held<L: Origin> {
     core: Core,
     book: Book<L>,
     /// What the dealing of the passes has left: nothing. At the end all passes go back into it.
     rest: Share<L>,
+    idle: IdleAsks,
     ghost counted: { length core.past ≡ book.total },
     ghost no_parts: { rest.parts ≡ 0 },
     ghost no_rest: { rest.amount ≡ 0 },
@@ -43,15 +46,14 @@ pub struct Held<L: Origin> {
     ghost limit: { core.limit ≡ L.limit },
 }
 
-/// One actor's right to ask, with the number of events that it has made, the last of them, and how
-/// many of its asks were answered `Said::Idle`, or u64::MAX where it were more.
+/// One actor's right to ask, with the number of events that it has made, and the last of them.
 #[derive(Drop)]
 pub struct Pass<L: Ledger> {
     actor: u8,
     count: u64,
-    idle: u64,
     last: Option<Event>,
     part: Share<L>,
+    ghost known: { actor < most_actors },
     ghost one_part: { part.parts ≡ 1 },
     ghost counted: { part.amount ≡ count },
 }
@@ -68,7 +70,7 @@ pub struct Reply<L: Ledger> {
 
 impl<L: Origin> Held<L> {
     /// Puts a core behind the lock, and deals a pass to each actor that there may be: pass k has
-    /// the number of actor k's events in the history so far, the last of them, and no idle asks.
+    /// the number of actor k's events in the history so far, and the last of them. No ask was idle.
     pub fn new(core: Core, blank: Blank) -> (Held<L>, [Pass<L>; MOST_ACTORS])
         requires name { blank.name ≡ L.name }
         requires parts { (blank.parts ≡ L.parts) × (L.parts ≡ most_actors) }
@@ -77,7 +79,7 @@ impl<L: Origin> Held<L> {
         ensures actors { map (λ p. p.actor) result.1 ≡ places }
         ensures counts { map (λ p. p.count) result.1 ≡ map (λ k. event_count k core.past) places }
         ensures lasts { map (λ p. p.last) result.1 ≡ map (λ k. last_event_of k core.past) places }
-        ensures idle { map (λ p. p.idle) result.1 ≡ map (λ k. 0) places }
+        ensures idle { result.0.idle.each ≡ replicate most_actors 0 }
     {
         let (mut book, mut rest) = blank.open::<L>();
         book.add(&mut rest, core.history().len() as u64);
@@ -95,7 +97,14 @@ impl<L: Origin> Held<L> {
             p19, p20, p21, p22, p23, p24, p25, p26, p27, p28, p29, p30, p31,
         ];
         book.audit(&mut rest);
-        (Held { core, book, rest }, passes)
+        let idle = IdleAsks::none();
+        let held = Held {
+            core,
+            book,
+            rest,
+            idle,
+        };
+        (held, passes)
     }
 
     /// Makes one step of the core for the pass's actor, and waits for nobody.
@@ -105,17 +114,16 @@ impl<L: Origin> Held<L> {
     #[inline(always)]
     pub fn step<P: Predict>(&mut self, pass: &mut Pass<L>, ask: Ask, predict: &mut P) -> Reply<L>
         ensures stepped { HasStepped P.predicts ask self.old.core self.new.core predict.old predict.new
+            self.old.idle.each self.new.idle.each
             (record {
               actor = pass.old.actor;
               count = pass.old.count;
               last = pass.old.last;
-              idle = pass.old.idle;
             })
             (record {
               actor = pass.new.actor;
               count = pass.new.count;
               last = pass.new.last;
-              idle = pass.new.idle;
             })
             (record {
               actor = result.actor;
@@ -131,12 +139,13 @@ impl<L: Origin> Held<L> {
             core,
             book,
             rest: _,
+            idle,
         } = self;
         show(core);
         let said = ask_core(core, actor, ask, predict);
         show(core);
         note(book, pass, said.event());
-        note_idle(pass, &said);
+        idle.count(actor, &said);
         Reply {
             actor,
             asked,
@@ -162,38 +171,44 @@ impl<L: Origin> Held<L> {
     /// Gives up the book, with all passes. `counts` are the passes' own and add up to the
     /// events of the history; `told` says that at each place k lies actor k's pass with that
     /// actor's count and last event; `own` says that the core is of this image and this
-    /// configuration. `idle` are the passes' own too.
-    pub fn finish(self, passes: [Pass<L>; MOST_ACTORS], image: &Image, config: &Config) -> Finished
+    /// configuration. `idle` are the numbers that stood beside the core.
+    pub fn finish(self, passes: [Pass<L>; MOST_ACTORS], image: &Image, config: &Config) -> Unlocked
         requires { L.parts ≡ most_actors }
-        ensures core { result.core ≡ self.core }
-        ensures counts { result.counts ≡ map (λ p. p.count) passes }
-        ensures idle { result.idle ≡ map (λ p. p.idle) passes }
-        ensures sum { sum result.counts ≡ length result.core.past }
-        ensures told { IsTrue result.told
+        ensures core { result.finished.core ≡ self.core }
+        ensures counts { result.finished.counts ≡ map (λ p. p.count) passes }
+        ensures idle { result.asks.each ≡ self.idle.each }
+        ensures sum { sum result.finished.counts ≡ length result.finished.core.past }
+        ensures told { IsTrue result.finished.told
             ↔ ((k : ℕ) (p : _) → slice_get passes k ≡ Some p
-            → (p.actor ≡ k) × IsTold result.core.past p.actor p.count p.last) }
-        ensures own { IsTrue result.own ↔ (result.core.setup ≡ setup_of image.now config.now) }
-        ensures origin { (result.core.setup ≡ L.setup) × (result.core.limit ≡ L.limit) }
-        ensures shown { Shown result.core }
+            → (p.actor ≡ k) × IsTold result.finished.core.past p.actor p.count p.last) }
+        ensures own { IsTrue result.finished.own
+            ↔ (result.finished.core.setup ≡ setup_of image.now config.now) }
+        ensures origin { (result.finished.core.setup ≡ L.setup)
+            × (result.finished.core.limit ≡ L.limit) }
+        ensures shown { Shown result.finished.core }
     {
         let Held {
             core,
             mut book,
             rest,
+            idle,
         } = self;
         let counts = counts_of(&passes);
-        let idle = idle_of(&passes);
         let told = are_told(&core, &passes);
         let mut all = gather(rest, passes);
         book.audit(&mut all);
         let own = core.is_of(image, config);
         show(&core);
-        Finished {
+        let finished = Finished {
             core,
             counts,
-            idle,
+            idle: idle.each(),
             told,
             own,
+        };
+        Unlocked {
+            finished,
+            asks: idle,
         }
     }
 }
@@ -205,7 +220,6 @@ fn note<L: Ledger>(book: &mut Book<L>, pass: &mut Pass<L>, event: Option<Event>)
     ensures actor { pass.new.actor ≡ pass.old.actor }
     ensures count { pass.new.count ≡ more pass.old.count event }
     ensures last { pass.new.last ≡ later pass.old.last event }
-    ensures idle { pass.new.idle ≡ pass.old.idle }
 {
     if event.is_none() {
         return;
@@ -213,7 +227,6 @@ fn note<L: Ledger>(book: &mut Book<L>, pass: &mut Pass<L>, event: Option<Event>)
     let Pass {
         actor: _,
         count,
-        idle: _,
         last,
         part,
     } = pass;
@@ -221,18 +234,4 @@ fn note<L: Ledger>(book: &mut Book<L>, pass: &mut Pass<L>, event: Option<Event>)
     book.add(part, 1);
     *count += 1;
     *last = event;
-}
-
-/// Counts an ask in the pass, where it was answered idle.
-#[inline(always)]
-fn note_idle<L: Ledger>(pass: &mut Pass<L>, said: &Said)
-    ensures actor { pass.new.actor ≡ pass.old.actor }
-    ensures count { pass.new.count ≡ pass.old.count }
-    ensures last { pass.new.last ≡ pass.old.last }
-    ensures idle { pass.new.idle ≡ more_idle pass.old.idle said.now }
-{
-    match said {
-        Said::Idle => pass.idle = pass.idle.saturating_add(1),
-        Said::Event(_) | Said::Job(_, _) | Said::Stranger | Said::Full => {}
-    }
 }

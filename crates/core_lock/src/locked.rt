@@ -5,16 +5,17 @@ ghost use Rattle.core_state.specs.Setup.{setup_of};
 ghost use Rattle.core_state.specs.View.{CoreView};
 ghost use Rattle.smt_model.specs.Account.{event_count, last_event_of};
 ghost use Rattle.core_lock.specs.Asks.{Replied, IsPredictedBy, asked_of, event_in, is_reply};
-ghost use Rattle.core_lock.specs.Passes.{IsTold, more, more_idle, later, going_in, places};
+ghost use Rattle.core_lock.specs.Passes.{IsTold, more, later, going_in, places};
 ghost use Rattle.smt_core.specs.Shown.{Shown};
 
 use crate::ask::Ask;
 use crate::held::{Held, Pass, Reply};
 use crate::origin::Origin;
 use crate::reader::CoreReader;
+use crate::unlocked::Unlocked;
 use elf_image::Image;
 use numbers::sizes::MOST_ACTORS;
-use smt_core::{Config, Core, Finished, Predict};
+use smt_core::{Config, Core, Predict};
 use std::hint::spin_loop;
 use std::sync::ledger::Blank;
 use std::sync::{Mutex, MutexGuard, Wait};
@@ -39,7 +40,7 @@ pub struct LockedCore<L: Origin> {
 
 impl<L: Origin> LockedCore<L> {
     /// Puts a core behind a lock, and deals a pass to each actor that there may be: pass k has the
-    /// number of actor k's events in the history so far, the last of them, and no idle asks.
+    /// number of actor k's events in the history so far, and the last of them.
     pub fn new(core: Core, blank: Blank) -> (LockedCore<L>, [Pass<L>; MOST_ACTORS])
         requires name { blank.name ≡ L.name }
         requires parts { (blank.parts ≡ L.parts) × (L.parts ≡ most_actors) }
@@ -47,7 +48,6 @@ impl<L: Origin> LockedCore<L> {
         ensures actors { map (λ p. p.actor) result.1 ≡ places }
         ensures counts { map (λ p. p.count) result.1 ≡ map (λ k. event_count k core.past) places }
         ensures lasts { map (λ p. p.last) result.1 ≡ map (λ k. last_event_of k core.past) places }
-        ensures idle { map (λ p. p.idle) result.1 ≡ map (λ k. 0) places }
     {
         let (held, passes) = Held::new(core, blank);
         let lock = Mutex::new(held);
@@ -67,7 +67,6 @@ impl<L: Origin> LockedCore<L> {
         ensures actor { pass.new.actor ≡ pass.old.actor }
         ensures count { pass.new.count ≡ more pass.old.count (event_in result.said) }
         ensures last { pass.new.last ≡ later pass.old.last (event_in result.said) }
-        ensures idle { pass.new.idle ≡ more_idle pass.old.idle result.said }
         ensures own { is_reply pass.old.actor (asked_of ask) result.said ≡ true }
         ensures predicted { IsPredictedBy P.predicts predict.old
             (asked_of ask) result.said predict.new }
@@ -106,18 +105,20 @@ impl<L: Origin> LockedCore<L> {
     /// Gives up the lock, with all passes. `counts` are the passes' own and add up to the
     /// events of the history; `told` says that at each place k lies actor k's pass with that
     /// actor's count and last event; `own` says that the core is of this image and this
-    /// configuration. `idle` are the passes' own too.
-    pub fn finish(self, passes: [Pass<L>; MOST_ACTORS], image: &Image, config: &Config) -> Finished
+    /// configuration. `idle` are the numbers that the lock has counted.
+    pub fn finish(self, passes: [Pass<L>; MOST_ACTORS], image: &Image, config: &Config) -> Unlocked
         requires { L.parts ≡ most_actors }
-        ensures counts { result.counts ≡ map (λ p. p.count) passes }
-        ensures idle { result.idle ≡ map (λ p. p.idle) passes }
-        ensures sum { sum result.counts ≡ length result.core.past }
-        ensures told { IsTrue result.told
+        ensures counts { result.finished.counts ≡ map (λ p. p.count) passes }
+        ensures idle { result.finished.idle ≡ result.asks.each }
+        ensures sum { sum result.finished.counts ≡ length result.finished.core.past }
+        ensures told { IsTrue result.finished.told
             ↔ ((k : ℕ) (p : _) → slice_get passes k ≡ Some p
-            → (p.actor ≡ k) × IsTold result.core.past p.actor p.count p.last) }
-        ensures own { IsTrue result.own ↔ (result.core.setup ≡ setup_of image.now config.now) }
-        ensures origin { (result.core.setup ≡ L.setup) × (result.core.limit ≡ L.limit) }
-        ensures shown { Shown result.core }
+            → (p.actor ≡ k) × IsTold result.finished.core.past p.actor p.count p.last) }
+        ensures own { IsTrue result.finished.own
+            ↔ (result.finished.core.setup ≡ setup_of image.now config.now) }
+        ensures origin { (result.finished.core.setup ≡ L.setup)
+            × (result.finished.core.limit ≡ L.limit) }
+        ensures shown { Shown result.finished.core }
     {
         let LockedCore { lock } = self;
         lock.into_inner().finish(passes, image, config)

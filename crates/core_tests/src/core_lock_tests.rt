@@ -10,7 +10,7 @@ ghost use Rattle.numbers.specs.Sizes.{most_actors};
 use crate::first_program::{End, FIRST_END, end_of, first_image};
 use crate::rows::counts;
 use arrayvec::ArrayVec;
-use core_lock::{Ask, CoreReader, Held, LockedCore, Origin, Pass, Said};
+use core_lock::{Ask, CoreReader, Held, LockedCore, Origin, Pass, Said, Unlocked};
 use elf_image::Image;
 use events::Event;
 use numbers::sizes::MOST_ACTORS;
@@ -183,7 +183,7 @@ fn two_with<L: Origin + Send + Sync, R: Threads + Wait + Sync>(
         p19, p20, p21, p22, p23, p24, p25, p26, p27, p28, p29, p30, p31,
     ];
     Joined {
-        finished: core.finish(passes, image, &config()),
+        finished: core.finish(passes, image, &config()).finished,
         first_agreed,
         second_agreed,
     }
@@ -242,7 +242,7 @@ struct Alone {
     decoded: Option<Event>,
     full: bool,
     going: u8,
-    finished: Finished,
+    unlocked: Unlocked,
 }
 
 fn ask_alone_with<L: Origin>(core: Core, blank: Blank, image: &Image) -> Alone
@@ -277,7 +277,7 @@ fn ask_alone_with<L: Origin>(core: Core, blank: Blank, image: &Image) -> Alone
         decoded,
         full,
         going,
-        finished: held.finish(passes, image, &config()),
+        unlocked: held.finish(passes, image, &config()),
     }
 }
 
@@ -286,7 +286,7 @@ fn ask_alone(core: Core, image: &Image) -> Alone {
 }
 
 /// What is asserted of such a core: besides the answers, what the first two passes counted and how many
-/// of their asks were idle, whether
+/// of their asks were idle, of the second's also by what the lock has counted, whether
 /// all passes agreed at the end, whether the core was of its image and sizes, and where a pass
 /// miscounted.
 #[derive(Clone, Copy, Drop)]
@@ -302,13 +302,15 @@ struct AskedAlone {
     second_count: u64,
     first_idle: u64,
     second_idle: u64,
+    second_asks: u64,
     all_agreed: bool,
     own: bool,
     miscount: Option<Miscount>,
 }
 
 fn seen_of(alone: &Alone) -> AskedAlone {
-    let finished = &alone.finished;
+    let finished = &alone.unlocked.finished;
+    let asks = alone.unlocked.asks.each();
     AskedAlone {
         count: alone.count,
         last: alone.last,
@@ -321,6 +323,7 @@ fn seen_of(alone: &Alone) -> AskedAlone {
         second_count: finished.counts[1],
         first_idle: finished.idle[0],
         second_idle: finished.idle[1],
+        second_asks: asks[1],
         all_agreed: finished.told,
         own: finished.own,
         miscount: first_miscount(finished),
@@ -358,6 +361,7 @@ fn passes_begin_with_the_counts_of_their_actors(rt: HostRuntime) {
     assert!(rt; asked.second_count == 3);
     assert!(rt; asked.first_idle == 0);
     assert!(rt; asked.second_idle == 1);
+    assert!(rt; asked.second_asks == 1);
     assert!(rt; asked.all_agreed);
     assert!(rt; asked.own);
     counts(&rt, "alone", asked.miscount);

@@ -1,7 +1,7 @@
 -- One ask of a core: what the predictor has guessed of its event, and that every pass still knows all of its actor.
 use Rattle.std.proofs.Common.{◌≡◌, ◌∙◌, ◌⊎◌, ℕ, ◌+◌, ◌<◌, ◌==◌, zero, suc, Bool, true, false, List, [], ◌∷◌, ◌++◌, length, not}
 use Rattle.std.proofs.Common.{Option, Some, None, refl, sym, ap, subst, inl, inr, arith, append_assoc}
-use Rattle.std.specs.Prelude.{get_or, slice_get, slice_set, map}
+use Rattle.std.specs.Prelude.{slice_get, slice_set, map}
 use Rattle.std.specs.Option.{option_map}
 use Rattle.std.proofs.{lemmas.Bool.and_parts, lemmas.Bool.false≢true, lemmas.Bool.Decides.nat_tests}
 use Rattle.std.proofs.lemmas.Option.{none-some, same_Some, slice_get-map}
@@ -11,12 +11,12 @@ use Rattle.events.specs.declared.event.Event.TheVariants.{Fetch, Decode, Rename,
 use Rattle.events.specs.declared.event.Event.TheVariants.{Drop, Retire, Refetch}
 use Rattle.core_state.specs.View.{CoreView}
 use Rattle.smt_model.specs.Account.{event_count, last_event_of}
-use Rattle.core_lock.specs.{declared.ask.Asked.Asked, declared.ask.Said.Said, Passes.IsTold, Passes.places, Passes.more_idle}
+use Rattle.core_lock.specs.{declared.ask.Asked.Asked, declared.ask.Said.Said, Passes.IsTold, Passes.places}
 use Rattle.core_lock.specs.declared.ask.Asked.TheVariants as asked
 use Rattle.core_lock.specs.declared.ask.Said.TheVariants as said
 use Rattle.core_lock.specs.Asks.{event_in, grown_by, is_event_for, is_issue, is_reply, IsPredictedBy}
 use Rattle.core_lock.proofs.Replies.{IsBy}
-use Rattle.scripts.specs.Session.{IsGuessed, AreGuessed, HasGuessed, idle_after}
+use Rattle.scripts.specs.Session.{IsGuessed, AreGuessed, HasGuessed}
 
 -- ---- What was guessed
 
@@ -226,13 +226,3 @@ module _ {X : Type 0} (actor count : X → ℕ) (last : X → Option Event) wher
           ends = same_Some (last p) (last_event_of (actor p) past) ended;
         },
       )
-
--- Where one pass has counted a reply, its actor's number has.
-pub counted_there : {X : Type 0} (idle : X → ℕ) (passes : List X) (k : ℕ) (d next : X) (s : Said) → k < length passes
-    → idle next ≡ more_idle (idle (get_or passes k d)) s
-    → map idle (slice_set passes k next) ≡ idle_after k s (map idle passes)
-counted_there idle [] k d next s inside is = absurd (omega (arith, inside))
-counted_there idle (x ∷ passes) zero d next s inside is = ap (λ n. n ∷ map idle passes) is
-counted_there idle (x ∷ passes) (suc k) d next s inside is =
-    let below : k < length passes = omega (arith, inside) in
-    ap (λ l. idle x ∷ l) (counted_there idle passes k d next s below is)

@@ -8,7 +8,7 @@ use Rattle.exec_units.specs.Job.{JobView, DoneView}
 use Rattle.text_fields.specs.Printing.{Prints}
 use Rattle.core_state.specs.View.{CoreView}
 use Rattle.smt_core.specs.Answers.{IsGuess}
-use Rattle.core_lock.specs.{declared.ask.Ask.Ask, declared.ask.Said.Said, Asks.Replied, Passes.more_idle}
+use Rattle.core_lock.specs.{declared.ask.Ask.Ask, declared.ask.Said.Said, Asks.Replied, Passes.idle_after}
 use Rattle.core_lock.specs.declared.ask.Ask.TheVariants as ask
 use Rattle.core_lock.specs.declared.ask.Said.TheVariants as said
 use Rattle.scripts.specs.{declared.actions.Action.Action, declared.actions.ScriptWord.ScriptWord}
@@ -153,11 +153,6 @@ HaveAsked words old new text = HaveActed Replied words old new text
 pub record Counted : Type 0 where
   pub core : CoreView
   pub idle : List ℕ
-
--- These numbers after one more reply to an actor: an idle one is one more of that actor, and no other
--- reply changes any.
-abbrev pub idle_after : ℕ → Said → List ℕ → List ℕ
-idle_after actor said idle = slice_set idle actor (more_idle (slice_index_or idle actor 0) said)
 
 -- The reply is the core's own, and counted.
 pub record HasReplied (actor : ℕ) (ask : Ask) (old : Counted) (said : Said) (new : Counted) : Type 0 where

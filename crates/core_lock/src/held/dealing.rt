@@ -37,8 +37,6 @@ pub(super) fn deal_four<L: Ledger>(
     ensures b { IsDealt core.now.past (first + 1) result.1.actor result.1.count result.1.last }
     ensures c { IsDealt core.now.past (first + 2) result.2.actor result.2.count result.2.last }
     ensures d { IsDealt core.now.past (first + 3) result.3.actor result.3.count result.3.last }
-    ensures idle { (result.0.idle ≡ 0) × (result.1.idle ≡ 0) × (result.2.idle ≡ 0)
-        × (result.3.idle ≡ 0) }
     ensures parts { rest.new.parts + (first + 4) ≡ most_actors }
     ensures amount { rest.new.amount ≡ made_from (first + 4) core.now.past }
 {
@@ -61,7 +59,6 @@ fn deal<L: Ledger>(
     requires inside { actor < most_actors }
     requires amount { rest.old.amount ≡ made_from actor core.now.past }
     ensures dealt { IsDealt core.now.past actor result.actor result.count result.last }
-    ensures idle { result.idle ≡ 0 }
     ensures parts { rest.new.parts + (actor + 1) ≡ most_actors }
     ensures amount { rest.new.amount ≡ made_from (actor + 1) core.now.past }
 {
@@ -72,7 +69,6 @@ fn deal<L: Ledger>(
     Pass {
         actor,
         count,
-        idle: 0,
         last,
         part,
     }
@@ -89,17 +85,6 @@ pub(super) fn counts_of<L: Ledger>(passes: &[Pass<L>; MOST_ACTORS]) -> [u64; MOS
     counts
 }
 
-/// How many asks of each pass were answered idle, in their order.
-pub(super) fn idle_of<L: Ledger>(passes: &[Pass<L>; MOST_ACTORS]) -> [u64; MOST_ACTORS]
-    ensures { result ≡ map (λ p. p.idle) passes.now }
-{
-    let mut idle = [0; MOST_ACTORS];
-    for (place, pass) in passes.iter().enumerate() {
-        idle[place] = pass.idle;
-    }
-    idle
-}
-
 /// Takes the passes' shares of the book together.
 pub(super) fn gather<L: Ledger>(rest: Share<L>, passes: [Pass<L>; MOST_ACTORS]) -> Share<L>
     requires no_parts { rest.parts ≡ 0 }
@@ -112,7 +97,6 @@ pub(super) fn gather<L: Ledger>(rest: Share<L>, passes: [Pass<L>; MOST_ACTORS]) 
         let Pass {
             actor: _,
             count: _,
-            idle: _,
             last: _,
             part,
         } = pass;

@@ -19,13 +19,6 @@ impl<L: Ledger> Pass<L> {
         self.count
     }
 
-    /// How many of its asks were answered idle, or u64::MAX where it were more.
-    pub fn idle(&self) -> u64
-        ensures { result ≡ self.now.idle }
-    {
-        self.idle
-    }
-
     /// The last event that it has made.
     pub fn last(&self) -> Option<Event>
         ensures { result ≡ self.now.last }

@@ -7,7 +7,7 @@ ghost use Rattle.smt_core.specs.Counts.{AreCounts};
 ghost use Rattle.smt_core.specs.Shown.{Shown};
 ghost use Rattle.scripts.specs.Session.{HasGuessed, HasReplied, uncounted};
 
-use core_lock::{Ask, Held, Origin, Pass, Said};
+use core_lock::{Ask, Held, Origin, Pass, Said, Unlocked};
 use elf_image::Image;
 use numbers::sizes::MOST_ACTORS;
 use smt_core::{Config, Core, Finished, Predict};
@@ -24,13 +24,13 @@ pub struct AskedCore<L: Origin> {
 }
 
 impl<L: Origin> Model for AskedCore<L> {
-    ghost use Rattle.std.specs.Prelude.{◌≡◌, ℕ, Some, map, slice_get};
+    ghost use Rattle.std.specs.Prelude.{◌≡◌, ℕ, Some, slice_get};
     ghost use Rattle.core_lock.specs.Passes.{IsTold};
     ghost use Rattle.scripts.specs.Session.{Counted};
 
     ghost Value = { Counted };
 
-    ghost view = { λ a. record { core = a.held.core; idle = map (λ p. p.idle) a.passes } };
+    ghost view = { λ a. record { core = a.held.core; idle = a.held.idle.each } };
 
     ghost invariant = { λ a. (k : ℕ) (p : _) → slice_get a.passes k ≡ Some p
         → (p.actor ≡ k) × IsTold a.held.core.past p.actor p.count p.last };
@@ -73,6 +73,7 @@ impl<L: Origin> AskedCore<L> {
         ensures shown { Shown result.core }
     {
         let AskedCore { held, passes } = self;
-        held.finish(passes, image, config)
+        let Unlocked { finished, asks: _ } = held.finish(passes, image, config);
+        finished
     }
 }

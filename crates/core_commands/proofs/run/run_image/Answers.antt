@@ -1,32 +1,19 @@
-use Rattle.core_commands.proofs.OfRun.{ran_refusal, same_setup, are_accepted, are_manned, for_sizes, for_roles}
 use Rattle.core_commands.proofs.run.run_image.Goals as goal
 
-pub returns-in-Ok-clause-accepted : goal.returns-in-Ok-clause-accepted
-returns-in-Ok-clause-accepted g c =
-    let settings = c.args.settings.now in
-    let program = c.args.image.now in
-    let copy = c.copied-config in
-    let same = same_setup program settings.config copy.result copy.ensures.sizes copy.ensures.roles in
-    are_accepted settings program c.in-Ok.finished c.run.result c.in-Ok.is
-    (for_sizes settings program copy.result c.run.result same c.run.ensures.config)
+pub returns-in-Ok-clause-setup : goal.returns-in-Ok-clause-setup
+returns-in-Ok-clause-setup g c = c.in-Ok.ensures.ran.setup
 
-pub returns-in-Ok-clause-manned : goal.returns-in-Ok-clause-manned
-returns-in-Ok-clause-manned g c =
-    let settings = c.args.settings.now in
-    let program = c.args.image.now in
-    let copy = c.copied-config in
-    let same = same_setup program settings.config copy.result copy.ensures.sizes copy.ensures.roles in
-    are_manned settings program c.in-Ok.finished c.run.result c.in-Ok.is
-    (for_sizes settings program copy.result c.run.result same c.run.ensures.config)
-    (for_roles settings program copy.result c.run.result same copy.ensures.roles c.run.ensures.roles)
+pub returns-in-Ok-clause-limit : goal.returns-in-Ok-clause-limit
+returns-in-Ok-clause-limit g c = c.in-Ok.ensures.ran.limit
 
-pub returns-in-Err-clause-refused : goal.returns-in-Err-clause-refused
-returns-in-Err-clause-refused g c =
-    let settings = c.args.settings.now in
-    let program = c.args.image.now in
-    let copy = c.copied-config in
-    let same = same_setup program settings.config copy.result copy.ensures.sizes copy.ensures.roles in
-    rw c.refused_run.ensures
-    (ran_refusal settings program c.run.result c.in-Err.why c.in-Err.is
-    (for_sizes settings program copy.result c.run.result same c.run.ensures.config)
-    (for_roles settings program copy.result c.run.result same copy.ensures.roles c.run.ensures.roles))
+pub returns-in-Ok-clause-own : goal.returns-in-Ok-clause-own
+returns-in-Ok-clause-own g c = c.in-Ok.ensures.ran.own
+
+pub returns-in-Ok-clause-counted : goal.returns-in-Ok-clause-counted
+returns-in-Ok-clause-counted g c = c.in-Ok.ensures.ran.counted
+
+pub returns-in-Ok-clause-told : goal.returns-in-Ok-clause-told
+returns-in-Ok-clause-told g c = c.in-Ok.ensures.ran.told
+
+pub returns-in-Ok-clause-shown : goal.returns-in-Ok-clause-shown
+returns-in-Ok-clause-shown g c = c.in-Ok.ensures.ran.shown

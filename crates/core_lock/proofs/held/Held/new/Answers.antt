@@ -113,24 +113,7 @@ returns-clause-lasts g c =
     refl)))))))
 
 pub returns-clause-idle : goal.returns-clause-idle
-returns-clause-idle g c =
-    let from_0 = c.deal_four-p0.ensures.idle in
-    let from_4 = c.deal_four-p4.ensures.idle in
-    let from_8 = c.deal_four-p8.ensures.idle in
-    let from_12 = c.deal_four-p12.ensures.idle in
-    let from_16 = c.deal_four-p16.ensures.idle in
-    let from_20 = c.deal_four-p20.ensures.idle in
-    let from_24 = c.deal_four-p24.ensures.idle in
-    let from_28 = c.deal_four-p28.ensures.idle in
-    four_more from_0.0 from_0.1 from_0.2 from_0.3
-    (four_more from_4.0 from_4.1 from_4.2 from_4.3
-    (four_more from_8.0 from_8.1 from_8.2 from_8.3
-    (four_more from_12.0 from_12.1 from_12.2 from_12.3
-    (four_more from_16.0 from_16.1 from_16.2 from_16.3
-    (four_more from_20.0 from_20.1 from_20.2 from_20.3
-    (four_more from_24.0 from_24.1 from_24.2 from_24.3
-    (four_more from_28.0 from_28.1 from_28.2 from_28.3
-    refl)))))))
+returns-clause-idle g c = c.none-idle.ensures
 
 pub deal_four-p0-requires-clause-made : goal.deal_four-p0-requires-clause-made
 deal_four-p0-requires-clause-made g c = c.made_of-made.ensures

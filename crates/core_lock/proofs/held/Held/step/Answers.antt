@@ -1,5 +1,5 @@
 use Rattle.std.proofs.Common.{◌≡◌, ◌∙◌, true, ap, refl, subst, sym}
-use Rattle.core_lock.specs.{Asks.is_reply, Passes.more, Passes.more_idle, Passes.later, Passes.IsTold}
+use Rattle.core_lock.specs.{Asks.is_reply, Passes.more, Passes.later, Passes.IsTold}
 use Rattle.core_lock.proofs.Replies.{own_reply, reply_grows, told_still, counted_still, setup_still, limit_still}
 use Rattle.core_lock.proofs.held.Held.step.Goals as goal
 
@@ -23,8 +23,8 @@ invariant_of-result g c = record {
 pub returns-clause-stepped : goal.returns-clause-stepped
 returns-clause-stepped g c =
     let answer = c.ask_core-said.ensures.answer in
-    let counts = c.note_idle.ensures.count ∙ c.note.ensures.count ∙ ap (more c.args.pass.now.count) c.event.ensures in
-    let ends = c.note_idle.ensures.last ∙ c.note.ensures.last ∙ ap (later c.args.pass.now.last) c.event.ensures in
+    let counts = c.note.ensures.count ∙ ap (more c.args.pass.now.count) c.event.ensures in
+    let ends = c.note.ensures.last ∙ ap (later c.args.pass.now.last) c.event.ensures in
     record {
       maker = refl;
       asked = c.asked-asked.ensures;
@@ -32,15 +32,15 @@ returns-clause-stepped g c =
       predicted = c.ask_core-said.ensures.predicted;
       grows = reply_grows _ _ _ _ _ answer;
       going = c.going.ensures;
-      actor = c.note_idle.ensures.actor ∙ c.note.ensures.actor;
+      actor = c.note.ensures.actor;
       count = counts;
       last = ends;
-      idle = c.note_idle.ensures.idle ∙ ap (λ n. more_idle n c.ask_core-said.result) c.note.ensures.idle;
+      idle = c.count.ensures;
       own = own_reply _ _ _ _ _ answer;
       shown = (c.show.ensures.shown, c.show-2.ensures.shown);
       told = λ told.
-          subst (λ k. IsTold c.ask_core-said.new.core.past k c.note_idle.new.pass.count c.note_idle.new.pass.last)
-          (sym (c.note_idle.ensures.actor ∙ c.note.ensures.actor))
+          subst (λ k. IsTold c.ask_core-said.new.core.past k c.note.new.pass.count c.note.new.pass.last)
+          (sym c.note.ensures.actor)
           (told_still _ _ _ _ _ _ _ _ _ answer counts ends told);
     }
 

@@ -8,6 +8,3 @@ returns-clause-counts g c = c.new-held.ensures.counts
 
 pub returns-clause-lasts : goal.returns-clause-lasts
 returns-clause-lasts g c = c.new-held.ensures.lasts
-
-pub returns-clause-idle : goal.returns-clause-idle
-returns-clause-idle g c = c.new-held.ensures.idle

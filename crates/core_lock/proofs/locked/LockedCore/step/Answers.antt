@@ -30,8 +30,5 @@ returns-clause-count g c = c.step.ensures.stepped.count
 pub returns-clause-last : goal.returns-clause-last
 returns-clause-last g c = c.step.ensures.stepped.last
 
-pub returns-clause-idle : goal.returns-clause-idle
-returns-clause-idle g c = c.step.ensures.stepped.idle
-
 pub returns-clause-own : goal.returns-clause-own
 returns-clause-own g c = c.step.ensures.stepped.own

@@ -1,10 +1,10 @@
-use Rattle.std.specs.Prelude.{map}
 use Rattle.std.proofs.Common.{◌<◌, length, get_or, sym, subst, ap, ◌∙◌, arith}
 use Rattle.std.proofs.lemmas.Option.{slice_get-get_or}
 use Rattle.core_lock.specs.Asks.{Replied, asked_of, event_in}
+use Rattle.core_lock.specs.Passes.{idle_after}
 use Rattle.core_lock.proofs.Replies.{IsBy, reply_by}
-use Rattle.scripts.specs.Session.{HasGuessed, Counted, idle_after}
-use Rattle.scripts.proofs.Asking.{all_told, has_guessed, counted_there}
+use Rattle.scripts.specs.Session.{HasGuessed, Counted}
+use Rattle.scripts.proofs.Asking.{all_told, has_guessed}
 use Rattle.scripts.proofs.session.asked_core.AskedCore.ask.Goals as goal
 
 pub invariant_of-self : goal.invariant_of-self
@@ -36,10 +36,9 @@ returns-clause-replied g c =
           v.core c.step.result.said c.step.new.self.core)
           c.self.view_is c.step.ensures.stepped.answer));
       counted =
-          counted_there (λ p. p.idle) c.self.inside.passes c.from.result c.index-self-from.result c.step.new.pass
-          c.step.result.said inside c.step.ensures.stepped.idle
-          ∙ ap (λ k. idle_after k c.step.result.said (map (λ p. p.idle) c.self.inside.passes)) c.from.ensures
-          ∙ ap (λ s. idle_after c.args.actor s (map (λ p. p.idle) c.self.inside.passes)) (sym c.said.ensures.said)
+          c.step.ensures.stepped.idle
+          ∙ ap (λ k. idle_after k c.step.result.said c.self.inside.held.idle.each) (at.0 ∙ c.from.ensures)
+          ∙ ap (λ s. idle_after c.args.actor s c.self.inside.held.idle.each) (sym c.said.ensures.said)
           ∙ ap (λ (v : Counted). idle_after c.args.actor c.said.result v.idle) c.self.view_is;
     }
 

@@ -21,4 +21,4 @@ pub returns-clause-core : goal.returns-clause-core
 returns-clause-core g c = c.finish.ensures.core ∙ ap (λ (v : Counted). v.core) c.self.view_is
 
 pub returns-clause-idle : goal.returns-clause-idle
-returns-clause-idle g c = c.finish.ensures.idle ∙ ap (λ (v : Counted). v.idle) c.self.view_is
+returns-clause-idle g c = c.finish.result.counted ∙ c.finish.ensures.idle ∙ ap (λ (v : Counted). v.idle) c.self.view_is

@@ -1,4 +1,3 @@
-use Rattle.std.specs.Prelude.{map}
 use Rattle.std.proofs.Common.{ap, ◌∙◌}
 use Rattle.scripts.proofs.Asking.{all_dealt}
 use Rattle.scripts.proofs.session.asked_core.AskedCore.new.Goals as goal
@@ -13,5 +12,5 @@ invariant_of-result g c =
 
 pub returns : goal.returns
 returns g c =
-    ap (λ core. record { core = core; idle = map (λ p. p.idle) c.new-held.result.1 }) c.new-held.ensures.core
+    ap (λ core. record { core = core; idle = c.new-held.result.0.idle.each }) c.new-held.ensures.core
     ∙ ap (λ l. record { core = c.args.core; idle = l }) c.new-held.ensures.idle
