@@ -33,14 +33,6 @@ module _ (explains : Bool) (old rest : Option (List ℕ)) (before : Standing) (o
     appends_more out mid new sign (answer_text answer) first second,
   )
 
-  pub last_turn : Appends out mid sign → Appends mid new (codes "\n") → IsAtEnd old
-      → Prints out new (IsTurn explains old rest before before (Some ended.Input))
-  last_turn first second end = (
-    sign ++ codes "\n",
-    (end, refl, refl),
-    appends_more out mid new sign (codes "\n") first second,
-  )
-
   pub unread_turn : (why : Complaint) → Appends out mid sign → Appends mid new (complaint_text why) → IsUnread why
       → Prints out new (IsTurn explains old rest before before (Some ended.Unread))
   unread_turn why first second unread = (
@@ -48,11 +40,6 @@ module _ (explains : Bool) (old rest : Option (List ℕ)) (before : Standing) (o
     (why, unread, refl, refl),
     appends_more out mid new sign (complaint_text why) first second,
   )
-
-pub quit_turn : (explains : Bool) (old rest : Option (List ℕ)) (before : Standing) (out new : Option (List ℕ))
-    (line : List ℕ) → Appends out new sign → IsNextLine old line rest → IsRead line (Some Quit)
-    → Prints out new (IsTurn explains old rest before before (Some ended.Quit))
-quit_turn explains old rest before out new line first next quit = (sign, (line, next, quit, refl, refl), first)
 
 -- ---- All turns so far
 
