@@ -66,18 +66,18 @@ pub prompt_ended : {P S : Type 0} (predicts : P → ℕ → ℕ → ℕ → ℕ 
     (program : ProgramImage) (input : Option (List ℕ)) (names : Table) (lines : Option (List Origin)) (wanted : Wanted)
     (marks : Marks) (old new : Option (List ℕ)) (answer : Result ℕ Refused) (step : StepCommand)
     → wants_of wanted ≡ step_wants step names → marks ≡ marks_where step.names names lines
-    → IfOk answer (PromptComesTo predicts first settings program input (wants_of wanted) marks
+    → IfOk answer (PromptComesTo predicts first settings program step.why input (wants_of wanted) marks
     (IsTraceWritten written has_failed before after wanted.trace) old new)
-    → IfOk answer (PromptComesTo predicts first settings program input (step_wants step names)
+    → IfOk answer (PromptComesTo predicts first settings program step.why input (step_wants step names)
     (marks_where step.names names lines) (IsTraceWritten written has_failed before after (is_some step.trace)) old new)
 prompt_ended predicts first written has_failed before after settings program input names lines wanted marks old new
     answer step wants marked ended =
     subst
-    (λ (m : Marks). IfOk answer (PromptComesTo predicts first settings program input (step_wants step names) m
+    (λ (m : Marks). IfOk answer (PromptComesTo predicts first settings program step.why input (step_wants step names) m
     (IsTraceWritten written has_failed before after (is_some step.trace)) old new))
     marked
     (subst
-    (λ (w : Wants). IfOk answer (PromptComesTo predicts first settings program input w marks
+    (λ (w : Wants). IfOk answer (PromptComesTo predicts first settings program step.why input w marks
     (IsTraceWritten written has_failed before after w.trace) old new))
     wants ended)
 

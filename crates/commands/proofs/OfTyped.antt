@@ -27,7 +27,7 @@ module _ {P : Type 0} (predicts : P → ℕ → ℕ → ℕ → ℕ → P → Ty
       (origins : Option (List Origin)) (old mid new : Option (List ℕ)) (status : ℕ)
       → IsConfiguration text settings → PassesAll file settings.ram → IsImageOf file settings.ram program
       → AreNamesFor (step.names || step.story) file names → AreLinesFor (is_some step.lines) lines program origins
-      → PromptComesTo predicts before (with_harts harts settings) program input (wanted names)
+      → PromptComesTo predicts before (with_harts harts settings) program step.why input (wanted names)
       (marks_where step.names names origins) Traced old mid status → Keeps mid new
       → TypedComesTo predicts before harts step (Ok text) (Ok file) lines input wanted Traced old new status
   typed_flushed text file program names lines origins old mid new status configured passes loaded named beside is
@@ -49,6 +49,7 @@ module _ {P : Type 0} (predicts : P → ℕ → ℕ → ℕ → ℕ → P → Ty
                 ended = is.ended;
                 core = is.core;
                 idle = is.idle;
+                answers = is.answers;
                 prompted = is.prompted;
                 as_step = is.as_step;
                 traced = is.traced;

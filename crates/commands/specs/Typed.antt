@@ -17,8 +17,8 @@ abbrev pub TypedComesTo : {P : Type 0} → (P → ℕ → ℕ → ℕ → ℕ �
     → Type 0
 TypedComesTo predicts before harts step config image lines input wanted Traced old new status =
     OfNamedProgram (step.names || step.story) config image (λ settings program names. OfLines (is_some step.lines) lines
-    program (λ origins. PromptComesTo predicts before (with_harts harts settings) program input (wanted names)
-    (marks_where step.names names origins) Traced old new status))
+    program (λ origins. PromptComesTo predicts before (with_harts harts settings) program step.why input
+    (wanted names) (marks_where step.names names origins) Traced old new status))
 
 -- So it does with what its words want of what is shown.
 abbrev pub StepIsTyped : {P : Type 0} → (P → ℕ → ℕ → ℕ → ℕ → P → Type 0) → P → Option ℕ → StepCommand → Read → Read

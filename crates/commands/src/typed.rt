@@ -125,7 +125,7 @@ fn prompt_beside<R, G, P: Predict + Copy, B: BufRead, S: EndFiles, W: Write>(
     requires finished { S.is_finished context.old.files ≡ true }
     ensures refused { IfErr result (IsStepRefusal settings.now []) }
     ensures ended { IfOk result (PromptComesTo P.predicts context.old.predict settings.now image.now
-        (B.remaining reader.old) (step_wants step.now (table_of names.now))
+        step.now.why (B.remaining reader.old) (step_wants step.now (table_of names.now))
         (marks_where step.now.names (table_of names.now) (origins_in lines.now))
         (IsTraceWritten S.written S.has_failed context.old.files context.new.files (is_some step.now.trace))
         (W.contents context.old.out) (W.contents context.new.out)) }

@@ -1,5 +1,5 @@
 -- The command `step` with a script that is typed: its refusals, and what it comes to.
-use Rattle.std.specs.Prelude.{◌≡◌, ℕ, true, false, List, [], ◌++◌, Option}
+use Rattle.std.specs.Prelude.{◌≡◌, ℕ, Bool, true, false, List, [], ◌++◌, Option}
 use Rattle.std.proofs.Common.{refl}
 use Rattle.elf_image.specs.Image.{ProgramImage}
 use Rattle.core_state.specs.{Setup.setup_of, View.CoreView}
@@ -30,36 +30,36 @@ pub refused_all : (settings : Settings) (image : ProgramImage)
 refused_all settings image is = λ other. is
 
 module _ {P : Type 0} (predicts : P → ℕ → ℕ → ℕ → ℕ → P → Type 0) (before : P) (settings : Settings)
-    (input : Option (List ℕ)) (wanted : Wants) (marks : Marks) (Traced : CoreView → Type 0) where
+    (explains : Bool) (input : Option (List ℕ)) (wanted : Wants) (marks : Marks) (Traced : CoreView → Type 0) where
   -- The lines were answered, and then the account was printed.
   pub prompt_comes_to : (image : ProgramImage) (ended : Ended) (core : CoreView) (idle : List ℕ)
       (old mid new : Option (List ℕ))
       (status : ℕ) → AreAccepted settings
-      → IsPrompted predicts before (setup_of image settings.config) settings.limit input ended core idle
-      → Prints old mid (λ text. Unit {0}) → Traced core
-      → IsReported core (idle_of core idle) wanted marks mid new status
-      → PromptComesTo predicts before settings image input wanted marks Traced old new status
-  prompt_comes_to image ended core idle old mid new status accepted prompted answered traced reported = record {
+      → Prints old mid
+      (IsPrompted predicts before (setup_of image settings.config) settings.limit explains input ended core idle)
+      → Traced core → IsReported core (idle_of core idle) wanted marks mid new status
+      → PromptComesTo predicts before settings image explains input wanted marks Traced old new status
+  prompt_comes_to image ended core idle old mid new status accepted prompted traced reported = record {
     accepted = accepted;
     ended = ended;
     core = core;
     idle = idle;
-    prompted = prompted;
+    answers = prompted.0;
+    prompted = prompted.1;
     as_step = λ script is. record {
-      words = words_in prompted.kept;
+      words = words_in prompted.1.kept;
       is_script = is;
-      asked = prompted.asked.asked;
+      asked = prompted.1.asked.asked;
     };
     traced = traced;
     printed = (
-      answered.0 ++ reported.printed.0,
+      prompted.0 ++ reported.printed.0,
       record {
-        answers = answered.0;
         account = reported.printed.0;
         is_account = reported.printed.1;
         both = refl;
       },
-      appends_more old mid new _ _ answered.2 reported.printed.2,
+      appends_more old mid new _ _ prompted.2 reported.printed.2,
     );
     harts = reported.harts;
   }

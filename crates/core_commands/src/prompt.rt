@@ -38,7 +38,7 @@ pub fn perform_prompt<R, G, P: Predict + Copy, B: BufRead, S: EndFiles, W: Write
     requires finished { S.is_finished context.old.files ≡ true }
     ensures refused { IfErr result (IsStepRefusal settings.now []) }
     ensures ended { IfOk result (PromptComesTo P.predicts context.old.predict settings.now image.now
-        (B.remaining reader.old) (wants_of wanted.entry) (marks_of labels.now)
+        why (B.remaining reader.old) (wants_of wanted.entry) (marks_of labels.now)
         (IsTraceWritten S.written S.has_failed context.old.files context.new.files wanted.entry.trace)
         (W.contents context.old.out) (W.contents context.new.out)) }
     ensures unwanted { wanted.entry.trace ≡ false → context.new.files ≡ context.old.files }

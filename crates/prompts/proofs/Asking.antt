@@ -1,19 +1,24 @@
 -- The core that was asked all lines, from what is known of the asks.
-use Rattle.std.specs.Prelude.{◌≡◌, ℕ, List, [], ◌++◌, reverse, Some}
+use Rattle.std.specs.Prelude.{◌≡◌, ℕ, ◌-◌, ◌≤◌, ◌==◌, min, if◌then◌else◌, List, [], ◌++◌, length, reverse, Some, None}
 use Rattle.std.specs.Prelude.{Result, Ok, Err, IfOk}
 use Rattle.elf_image.specs.Image.{ProgramImage}
 use Rattle.std.proofs.Common.{sym, ap, subst, ◌∙◌, arith}
 use Rattle.std.proofs.lemmas.Grind.{common_steps}
+use Rattle.std.proofs.lemmas.List.{length-reverse}
+use Rattle.numbers.specs.Sizes.{most_events}
 use Rattle.events.specs.declared.event.Event.{Event}
 use Rattle.smt_model.specs.{Setup.Setup, Rules.is_legal}
 use Rattle.smt_model.specs.declared.config.Config.{Config}
 use Rattle.core_state.specs.{Setup.setup_of, View.CoreView}
 use Rattle.smt_core.specs.Shown.{Shown}
+use Rattle.std.specs.Io.KnownBytes.{Appends}
 use Rattle.text_fields.specs.Printing.{Prints}
 use Rattle.scripts.specs.{declared.actions.ScriptWord.ScriptWord, Lines.words_in}
 use Rattle.scripts.specs.Session.{HaveCounted, AreGuessed, HasGuessed, unasked}
-use Rattle.charts.specs.Rows.{AreHistory}
-use Rattle.prompts.specs.Kept.{Kept, IsAskedAll}
+use Rattle.address_labels.specs.Labels.{Marks, no_marks}
+use Rattle.charts.specs.{declared.row.Row.Row, declared.view.View.View, Rows.AreHistory, Rows.AreRows}
+use Rattle.charts.specs.{Order.AreByFetch, Text.chart_text, Views.view_of}
+use Rattle.prompts.specs.{Kept.Kept, Kept.IsAskedAll, Printed.IsChartOf}
 
 -- What was printed into a text of nothing is all of it.
 pub printed_all : (old new : List ℕ) (P : List ℕ → Type 0) → old ≡ [] → Prints (Some old) (Some new) P → P new
@@ -55,6 +60,33 @@ pub history_in : (core : CoreView) (items events : List Event) → reverse items
     → is_legal core.setup core.past → events ≡ items → AreHistory events
 history_in core items events past legal same =
     (core.setup, subst (is_legal core.setup) (sym (ap reverse same ∙ past)) legal)
+
+-- What is drawn of all events ends with the last.
+whole : (events : ℕ) → events ≤ most_events
+    → view_of 0 4294967295 None events ≡ view_of 0 (events - 1) None events
+whole events few =
+    let last : min 4294967295 (events - 1) ≡ min (events - 1) (events - 1) = omega (arith, few) in
+    ap (λ (n : ℕ). if events == 0 then record { from = 1; to = 0; hart = None }
+    else record { from = 0; to = n; hart = None }) last
+
+-- The chart of a core is drawn of that list, into a text of nothing.
+pub chart_is : (core : CoreView) (items events : List Event) (rows : List Row) (start text : List ℕ) (marks : Marks)
+    (view : View) (count : ℕ) → reverse items ≡ core.past → length items ≤ core.limit → core.limit ≤ most_events
+    → events ≡ items → AreRows (reverse events) rows → AreByFetch rows → start ≡ [] → marks ≡ no_marks
+    → view ≡ view_of 0 4294967295 None count → count ≡ length items
+    → (AreByFetch rows → Appends (Some start) (Some text) (chart_text 80 marks view rows)) → IsChartOf core text
+chart_is core items events rows start text marks view count past within small same are by_fetch none unmarked seen long
+    drawn =
+        let as_long : length items ≡ length core.past = sym (length-reverse items) ∙ ap length past in
+        let few : length core.past ≤ most_events = omega (arith, within, small, as_long) in
+        let all : view ≡ view_of 0 (length core.past - 1) None (length core.past) =
+        seen ∙ ap (λ (n : ℕ). view_of 0 4294967295 None n) (long ∙ as_long) ∙ whole (length core.past) few in
+        record {
+          rows = rows;
+          are_rows = subst (λ l. AreRows l rows) (ap reverse same ∙ past) are;
+          drawn = drawn by_fetch ∙ ap (λ s. s ++ chart_text 80 marks view rows) none
+              ∙ ap (λ m. chart_text 80 m view rows) unmarked ∙ ap (λ v. chart_text 80 no_marks v rows) all;
+        }
 
 -- A copy of a configuration makes the same core.
 pub same_setup : (image : ProgramImage) (a b : Config) → (a.harts ≡ b.harts) × (a.extra ≡ b.extra) × (a.queue ≡ b.queue)

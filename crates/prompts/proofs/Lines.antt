@@ -1,5 +1,5 @@
 -- The lines that are kept: with one more, without the last, and all in range.
-use Rattle.std.specs.Prelude.{◌≡◌, ℕ, ◌+◌, ◌-◌, ◌<◌, List, [], ◌∷◌, ◌++◌, length, take, drop, get_or, All, Vec, OnOk, Result, Ok, Err}
+use Rattle.std.specs.Prelude.{◌≡◌, ℕ, ◌+◌, ◌-◌, ◌<◌, List, [], ◌∷◌, ◌++◌, length, take, drop, get_or, All, Vec}
 use Rattle.std.proofs.Common.{refl, sym, ap, subst, ◌∙◌, arith, length-append}
 use Rattle.std.proofs.Math.Seq.{take-append_seam}
 use Rattle.std.proofs.lemmas.List.{map-append, take-map, map_more, take-append-drop, flat_map_more}
@@ -8,9 +8,7 @@ use Rattle.std.proofs.lemmas.Grind.{flat_map-append, common_steps}
 use Rattle.scripts.specs.{declared.actions.ScriptWord.ScriptWord, Script.IsInRange, Lines.words_in}
 use Rattle.core_state.specs.View.{CoreView}
 use Rattle.smt_model.specs.Setup.{Setup}
-use Rattle.prompts.specs.declared.command.Command.{Command}
-use Rattle.prompts.specs.declared.command.Command.TheVariants as command
-use Rattle.prompts.specs.Kept.{Kept, kept_in, AreInRange, IsAskedAll, with_words, left_by}
+use Rattle.prompts.specs.Kept.{Kept, kept_in, AreInRange, IsAskedAll}
 
 -- ---- In range
 
@@ -67,16 +65,6 @@ module _ {A : Type 0} where
   truncated n lines seen now same cut =
       ap (λ (l : List (Vec ScriptWord A)). kept_in (take n l)) same ∙ ap kept_in (sym cut)
 
-  -- taking the last line back, of an answer
-  pub undone : {X E : Type 0} (answer : Result X E) (said : Command) (lines now : List (Vec ScriptWord A))
-      → said ≡ command.Undo → OnOk answer (now ≡ take (length lines - 1) lines)
-      → OnOk answer (kept_in now ≡ left_by said (kept_in lines))
-  undone (Ok x) said lines now is done =
-      ap kept_in done ∙ kept_before (length lines - 1) lines
-      ∙ ap (λ (n : ℕ). take (n - 1) (kept_in lines)) (sym (kept_count lines))
-      ∙ ap (λ (s : Command). left_by s (kept_in lines)) (sym is)
-  undone (Err e) said lines now is done = tt
-
   -- a turn of the loop that puts the words of all lines together
   pub words_more : (lines : List (Vec ScriptWord A)) (i : ℕ) (d : Vec ScriptWord A) (words more : List ScriptWord)
       → i < length lines → words ≡ words_in (kept_in (take i lines)) → more ≡ words ++ (get_or lines i d).items
@@ -86,14 +74,7 @@ module _ {A : Type 0} where
       ∙ flat_map_more (λ (line : List ScriptWord). line) [] (kept_in (take i lines)) (get_or lines i d).items
       ∙ ap words_in (sym (map_more (λ (v : Vec ScriptWord A). v.items) lines i d inside))
 
--- ---- One more, and without it again
-
-pub with_some : (words : List ScriptWord) (kept : Kept) → (words ≡ [] → ⊥) → with_words words kept ≡ kept ++ words ∷ []
-with_some [] kept some = absurd (some refl)
-with_some (word ∷ others) kept some = refl
-
-pub with_none : (words : List ScriptWord) (kept : Kept) → words ≡ [] → with_words words kept ≡ kept
-with_none words kept none = ap (λ w. with_words w kept) none
+-- ---- Without the last again
 
 pub popped : {X : Type 0} (xs : List X) (x : X) (old now : List X) → old ≡ xs ++ x ∷ []
     → now ≡ take (length old - 1) old → now ≡ xs

@@ -1,110 +1,177 @@
 -- One line after another.
-use Rattle.std.specs.Prelude.{◌≡◌, ℕ, List, [], ◌∷◌, ◌++◌, Option, Some, None, Result, Ok, Err}
-use Rattle.std.proofs.Common.{sym, subst}
-use Rattle.std.specs.Io.KnownBytes.{Appends}
-use Rattle.std.proofs.KnownBytes.{Appends-nil}
+use Rattle.std.specs.Prelude.{◌≡◌, ℕ, Bool, List, [], ◌∷◌, ◌++◌, codes, Option, Some, None, Vec, Result}
+use Rattle.std.proofs.Common.{refl, sym, ap, subst, ◌∙◌, arith}
+use Rattle.std.proofs.lemmas.Grind.{common_steps}
+use Rattle.std.specs.Io.KnownBytes.{Appends, IsAtEnd}
+use Rattle.std.proofs.KnownBytes.{Appends-nil, Keeps-refl}
 use Rattle.text_fields.specs.Printing.{Prints}
 use Rattle.text_fields.proofs.Appending.{appends_more}
 use Rattle.prompts.specs.declared.command.Command.TheVariants.{Quit}
 use Rattle.prompts.specs.declared.session.Complaint.{Complaint}
-use Rattle.prompts.specs.declared.session.Complaint.TheVariants as complaint
+use Rattle.prompts.specs.declared.session.Complaint.TheVariants.{Unread}
+use Rattle.prompts.specs.declared.session.Session.{Session as AnySession}
 use Rattle.prompts.specs.declared.prompting.Ended.{Ended}
 use Rattle.prompts.specs.declared.prompting.Ended.TheVariants as ended
-use Rattle.prompts.specs.{Typed.IsRead, Kept.AnswersWords, Kept.IsAnswered, Kept.complaint_in}
-use Rattle.prompts.specs.{Kept.Kept, Session.IsTurn, Prompted.Typed, Prompted.HaveCome, Prompted.HasTyped}
-use Rattle.prompts.specs.{Kept.kept_in, Kept.IsAskedAll, Session.IsSession, Prompted.IsPrompted}
-use Rattle.prompts.specs.declared.session.Session.{Session as AnySession}
+use Rattle.prompts.specs.{Typed.IsRead, Typed.IsNextLine, Printed.sign, Printed.complaint_text}
+use Rattle.prompts.specs.Answers.{IsAnswered, complaint_in, answer_text}
+use Rattle.prompts.specs.Prompted.{Typed, HaveCome, HasTyped, IsPrompted, IsUnread, printed_of}
+use Rattle.prompts.specs.{Kept.kept_in, Kept.Standing, Kept.Stands}
+use Rattle.prompts.specs.Session.{IsSession, IsTurn, standing_of}
 use Rattle.smt_model.specs.Setup.{Setup}
 use Rattle.core_state.specs.View.{CoreView}
 
-abbrev pub Anything : List ℕ → Type 0
-Anything text = Unit {0}
+-- ---- One turn
 
--- Lines have come so far, and these are kept of them.
-pub record AreSoFar (input rest : Option (List ℕ)) (kept : Kept) : Type 0 where
+module _ (explains : Bool) (old rest : Option (List ℕ)) (before : Standing) (out mid new : Option (List ℕ)) where
+  pub answered_turn : {A : Type 0} (now : Standing) (line : List ℕ) (answer : Result (Vec ℕ A) Complaint)
+      → Appends out mid sign → Appends mid new (answer_text answer) → IsNextLine old line rest
+      → IsAnswered explains line (complaint_in answer) before now (answer_text answer)
+      → Prints out new (IsTurn explains old rest before now None)
+  answered_turn now line answer first second next is = (
+    sign ++ answer_text answer,
+    (line, complaint_in answer, answer_text answer, next, is, refl),
+    appends_more out mid new sign (answer_text answer) first second,
+  )
+
+  pub unread_turn : (why : Complaint) → Appends out mid sign → Appends mid new (complaint_text why) → IsUnread why
+      → Prints out new (IsTurn explains old rest before before (Some ended.Unread))
+  unread_turn why first second unread = (
+    sign ++ complaint_text why,
+    (why, unread, refl, refl),
+    appends_more out mid new sign (complaint_text why) first second,
+  )
+
+-- ---- All turns so far
+
+-- Lines have come so far and were answered, and this was printed of them.
+pub record AreSoFar (Holds : Standing → Type 0) (explains : Bool) (input rest : Option (List ℕ)) (now : Standing)
+    (text : List ℕ) : Type 0 where
   pub typed : List Typed
-  pub have_come : HaveCome input typed rest kept
+  pub have_come : HaveCome Holds explains input typed rest now
+  pub printed : text ≡ printed_of typed
 
-pub comes : (input old new : Option (List ℕ)) (kept now : Kept) → AreSoFar input old kept
-    → IsTurn old new kept now None → AreSoFar input new now
-comes input old new kept now so_far turn = record {
-  typed = record { line = turn.0; complaint = turn.1 } ∷ so_far.typed;
-  have_come = (old, kept, so_far.have_come, turn.2, turn.3);
-}
+both : (a b c d : List ℕ) → a ≡ c → b ≡ d → a ++ b ≡ c ++ d
+both a b c d first second = ap (λ t. t ++ b) first ∙ ap (λ t. c ++ t) second
 
-pub ends : (input old new : Option (List ℕ)) (kept now : Kept) (end : Ended) → AreSoFar input old kept
-    → IsTurn old new kept now (Some end) → HasTyped input now end
-ends input old new kept now ended.Quit so_far turn = record {
-  typed = record { line = turn.0; complaint = None } ∷ so_far.typed;
-  rest = new;
-  have_come = (old, kept, so_far.have_come, turn.1, (Some Quit, turn.2, turn.3));
-  is_end = turn.2;
-}
-ends input old new kept now ended.Input so_far turn = record {
-  typed = so_far.typed;
-  rest = old;
-  have_come = subst (HaveCome input so_far.typed old) (sym turn.1) so_far.have_come;
-  is_end = turn.0;
-}
-ends input old new kept now ended.Unread so_far turn = record {
-  typed = so_far.typed;
-  rest = old;
-  have_come = subst (HaveCome input so_far.typed old) (sym turn) so_far.have_come;
-  is_end = tt;
-}
+quits : (text more so_far : List ℕ) → text ≡ so_far → more ≡ sign → text ++ more ≡ (so_far ++ (sign ++ [])) ++ []
+quits text more so_far first second =
+    let alone : so_far ++ sign ≡ (so_far ++ (sign ++ [])) ++ [] = grind (arith, common_steps) in
+    both text more so_far sign first second ∙ alone
 
-pub comes_on : (input old new : Option (List ℕ)) (kept now : Kept) (answer : Option Ended) → answer ≡ None
-    → AreSoFar input old kept → IsTurn old new kept now answer → AreSoFar input new now
-comes_on input old new kept now answer is so_far turn =
-    comes input old new kept now so_far (subst (IsTurn old new kept now) is turn)
+module _ (Holds : Standing → Type 0) (explains : Bool) (input : Option (List ℕ)) where
+  pub comes : (old rest : Option (List ℕ)) (before now : Standing) (text more : List ℕ)
+      → AreSoFar Holds explains input old before text → IsTurn explains old rest before now None more → Holds now
+      → AreSoFar Holds explains input rest now (text ++ more)
+  comes old rest before now text more so_far turn holds = record {
+    typed = record { line = turn.0; complaint = turn.1; answer = turn.2 } ∷ so_far.typed;
+    have_come = (old, before, so_far.have_come, turn.3, turn.4, holds);
+    printed = both text more (printed_of so_far.typed) (sign ++ turn.2) so_far.printed turn.5;
+  }
 
-pub ends_so : (input old new : Option (List ℕ)) (kept now : Kept) (answer : Option Ended) (end : Ended)
-    → answer ≡ Some end → AreSoFar input old kept → IsTurn old new kept now answer → HasTyped input now end
-ends_so input old new kept now answer end is so_far turn =
-    ends input old new kept now end so_far (subst (IsTurn old new kept now) is turn)
+  pub ends : (old rest : Option (List ℕ)) (before now : Standing) (end : Ended) (text more : List ℕ)
+      → AreSoFar Holds explains input old before text → IsTurn explains old rest before now (Some end) more → Holds now
+      → HasTyped Holds explains input now end (text ++ more)
+  ends old rest before now ended.Quit text more so_far turn holds = record {
+    typed = record { line = turn.0; complaint = None; answer = [] } ∷ so_far.typed;
+    rest = rest;
+    have_come = (old, before, so_far.have_come, turn.1, (Some Quit, turn.2, (turn.3, refl)), holds);
+    last = [];
+    is_end = (turn.2, refl);
+    printed = quits text more (printed_of so_far.typed) so_far.printed turn.4;
+  }
+  ends old rest before now ended.Input text more so_far turn holds = record {
+    typed = so_far.typed;
+    rest = old;
+    have_come =
+        subst (λ (s : Standing). HaveCome Holds explains input so_far.typed old s) (sym turn.1) so_far.have_come;
+    last = more;
+    is_end = (turn.0, turn.2);
+    printed = ap (λ t. t ++ more) so_far.printed;
+  }
+  ends old rest before now ended.Unread text more so_far turn holds = record {
+    typed = so_far.typed;
+    rest = old;
+    have_come =
+        subst (λ (s : Standing). HaveCome Holds explains input so_far.typed old s) (sym turn.2) so_far.have_come;
+    last = more;
+    is_end = (turn.0, turn.1, turn.3);
+    printed = ap (λ t. t ++ more) so_far.printed;
+  }
 
-pub stops : (input rest : Option (List ℕ)) (kept : Kept) → AreSoFar input rest kept → HasTyped input kept ended.Unread
-stops input rest kept so_far =
-    record { typed = so_far.typed; rest = rest; have_come = so_far.have_come; is_end = tt }
+  pub starts : (out : Option (List ℕ)) (now : Standing) → now.kept ≡ [] → Holds now
+      → Prints out out (AreSoFar Holds explains input input now)
+  starts out now none holds = (
+    [],
+    record { typed = []; have_come = (Keeps-refl input, none, holds); printed = refl },
+    Appends-nil out,
+  )
 
-pub prints_more : (old mid new : Option (List ℕ)) → Prints old mid Anything → Prints mid new Anything → Prints old new Anything
-prints_more old mid new first second =
-    (first.0 ++ second.0, tt, appends_more old mid new first.0 second.0 first.2 second.2)
+  module _ (out mid new : Option (List ℕ)) where
+    pub comes_on : (old rest : Option (List ℕ)) (before now : Standing) (answer : Option Ended) → answer ≡ None
+        → Prints out mid (AreSoFar Holds explains input old before)
+        → Prints mid new (IsTurn explains old rest before now answer) → Holds now
+        → Prints out new (AreSoFar Holds explains input rest now)
+    comes_on old rest before now answer is so_far turn holds = (
+      so_far.0 ++ turn.0,
+      comes old rest before now so_far.0 turn.0 so_far.1
+          (subst (λ (a : Option Ended). IsTurn explains old rest before now a turn.0) is turn.1) holds,
+      appends_more out mid new so_far.0 turn.0 so_far.2 turn.2,
+    )
 
-pub prints_nothing : (out : Option (List ℕ)) → Prints out out Anything
-prints_nothing out = ([], tt, Appends-nil out)
+    pub ends_so : (old rest : Option (List ℕ)) (before now : Standing) (answer : Option Ended) (end : Ended)
+        → answer ≡ Some end → Prints out mid (AreSoFar Holds explains input old before)
+        → Prints mid new (IsTurn explains old rest before now answer) → Holds now
+        → Prints out new (HasTyped Holds explains input now end)
+    ends_so old rest before now answer end is so_far turn holds = (
+      so_far.0 ++ turn.0,
+      ends old rest before now end so_far.0 turn.0 so_far.1
+          (subst (λ (a : Option Ended). IsTurn explains old rest before now a turn.0) is turn.1) holds,
+      appends_more out mid new so_far.0 turn.0 so_far.2 turn.2,
+    )
 
-pub prints_text : (old new : Option (List ℕ)) (text : List ℕ) → Appends old new text → Prints old new Anything
-prints_text old new text appends = (text, tt, appends)
+    -- they are given up
+    pub stops : (rest last : Option (List ℕ)) (now : Standing) → Prints out mid (AreSoFar Holds explains input rest now)
+        → Appends mid last sign → Appends last new (complaint_text Unread)
+        → Prints out new (HasTyped Holds explains input now ended.Unread)
+    stops rest last now so_far first second = (
+      so_far.0 ++ (sign ++ complaint_text Unread),
+      record {
+        typed = so_far.1.typed;
+        rest = rest;
+        have_come = so_far.1.have_come;
+        last = sign ++ complaint_text Unread;
+        is_end = (Unread, tt, refl);
+        printed = ap (λ t. t ++ (sign ++ complaint_text Unread)) so_far.1.printed;
+      },
+      appends_more out mid new so_far.0 _ so_far.2
+          (appends_more mid last new sign (complaint_text Unread) first second),
+    )
 
-pub prints_into : (old new other : Option (List ℕ)) → other ≡ new → Prints old new Anything → Prints old other Anything
-prints_into old new other same prints = subst (λ (o : Option (List ℕ)). Prints old o Anything) (sym same) prints
+-- ---- What a session whose lines have come to their end has come to
 
--- What a line of words is answered, as what any line is.
-pub answers_words : {A : Type 0} (line : List ℕ) (answer : Result A Complaint) (kept now : Kept) → IsRead line None
-    → AnswersWords line (complaint_in answer) kept now → IsAnswered line (complaint_in answer) kept now
-answers_words line (Ok text) kept now none is = (None, none, is)
-answers_words line (Err (complaint.Word n)) kept now none is = ((none, is.0), is.1)
-answers_words line (Err complaint.Memory) kept now none is = (tt, is)
-answers_words line (Err complaint.TooLong) kept now none is = absurd is
-answers_words line (Err complaint.Unread) kept now none is = absurd is
+module _ {P : Type 0} (predicts : P → ℕ → ℕ → ℕ → ℕ → P → Type 0) (before : P) (setup : Setup) (limit : ℕ)
+    (explains : Bool) (input : Option (List ℕ)) where
+  comes_to : (session : AnySession) (end : Ended) (core : CoreView) (idle text : List ℕ)
+      → IsSession predicts before setup limit session
+      → HasTyped (Stands predicts before setup limit) explains input (standing_of session) end text
+      → core ≡ session.asked.core → idle ≡ session.asked.idle
+      → IsPrompted predicts before setup limit explains input end core idle text
+  comes_to session end core idle text is typed same_core same_idle =
+      subst (λ (c : CoreView). IsPrompted predicts before setup limit explains input end c idle text) (sym same_core)
+      (subst
+      (λ (i : List ℕ). IsPrompted predicts before setup limit explains input end session.asked.core i text)
+      (sym same_idle)
+      (record {
+        kept = kept_in session.lines.items;
+        lines = session.asked.text.items;
+        has_typed = typed;
+        asked = is.asked;
+      }))
 
--- What a session whose lines have come to their end has come to.
-pub comes_to : {P : Type 0} (predicts : P → ℕ → ℕ → ℕ → ℕ → P → Type 0) (before : P) (setup : Setup) (limit : ℕ)
-    (input : Option (List ℕ)) (session : AnySession) (end : Ended) (core : CoreView) (idle : List ℕ)
-    → IsSession predicts before setup limit session → HasTyped input (kept_in session.lines.items) end
-    → core ≡ session.asked.core → idle ≡ session.asked.idle
-    → IsPrompted predicts before setup limit input end core idle
-comes_to predicts before setup limit input session end core idle is typed same_core same_idle = record {
-  kept = kept_in session.lines.items;
-  has_typed = typed;
-  lines = session.asked.text.items;
-  asked =
-      subst (λ (c : CoreView).
-      IsAskedAll predicts before setup limit (kept_in session.lines.items) c idle session.asked.text.items)
-      (sym same_core)
-      (subst (λ (l : List ℕ).
-      IsAskedAll predicts before setup limit (kept_in session.lines.items) session.asked.core l
-      session.asked.text.items)
-      (sym same_idle) is.asked);
-}
+  pub has_come_to : (session : AnySession) (end : Ended) (core : CoreView) (idle : List ℕ) (old new : Option (List ℕ))
+      → IsSession predicts before setup limit session
+      → Prints old new (HasTyped (Stands predicts before setup limit) explains input (standing_of session) end)
+      → core ≡ session.asked.core → idle ≡ session.asked.idle
+      → Prints old new (IsPrompted predicts before setup limit explains input end core idle)
+  has_come_to session end core idle old new is typed same_core same_idle =
+      (typed.0, comes_to session end core idle typed.0 is typed.1 same_core same_idle, typed.2)

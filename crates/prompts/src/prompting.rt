@@ -1,12 +1,14 @@
 //! One line after another: read, answered, printed.
 
-ghost use Rattle.std.specs.Prelude.{◌≡◌, [], IfOk, IfErr, OnOk, true, false, Err};
+ghost use Rattle.std.specs.Prelude.{◌≡◌, [], IfOk, OnOk, true, false, Err};
 ghost use Rattle.std.specs.Io.KnownBytes.{Appends};
 ghost use Rattle.core_state.specs.Setup.{setup_of};
 ghost use Rattle.smt_model.specs.Setup.{is_accepted};
 ghost use Rattle.text_fields.specs.Printing.{Prints};
-ghost use Rattle.prompts.specs.Kept.{kept_in};
-ghost use Rattle.prompts.specs.Session.{IsSession, IsTurn};
+ghost use Rattle.prompts.specs.Kept.{Stands};
+ghost use Rattle.prompts.specs.Printed.{complaint_text, sign};
+ghost use Rattle.prompts.specs.Answers.{answer_text};
+ghost use Rattle.prompts.specs.Session.{IsSession, IsTurn, standing_of};
 ghost use Rattle.prompts.specs.Prompted.{HasTyped, IsPrompted};
 
 use crate::command::{Command, read_command};
@@ -62,18 +64,18 @@ struct Unwritten;
 /// explained.
 ///
 /// What is answered has the core that was asked the words of all lines that are kept, one after
-/// another and nothing else: so it is the core of the script of these words.
+/// another and nothing else: so it is the core of the script of these words. What is printed are the
+/// answers of all lines, in order, each behind the sign of its line.
 pub fn prompt<P: Predict + Copy, R: BufRead, W: Write>(
     simulation: &Simulation<'_, P>,
     why: bool,
     reader: &mut R,
     out: &mut W,
 ) -> Result<Prompted, PromptRefused>
-    ensures prompted { IfOk result (λ prompted. IsPrompted P.predicts simulation.now.predict
-        (setup_of simulation.now.image.now simulation.now.config.now) simulation.now.limit
-        (R.remaining reader.old) prompted.ended prompted.core prompted.idle) }
-    ensures printed { OnOk result
-        (Prints (W.contents out.old) (W.contents out.new) (λ text. Unit {0})) }
+    ensures prompted { IfOk result (λ prompted. Prints (W.contents out.old) (W.contents out.new)
+        (IsPrompted P.predicts simulation.now.predict
+        (setup_of simulation.now.image.now simulation.now.config.now) simulation.now.limit why
+        (R.remaining reader.old) prompted.ended prompted.core prompted.idle)) }
     ensures accepted { OnOk result
         (is_accepted (setup_of simulation.now.image.now simulation.now.config.now)
         simulation.now.limit ≡ true) }
@@ -110,13 +112,13 @@ fn answer_all<P: Predict + Copy, R: BufRead, W: Write>(
         (setup_of simulation.now.image.now simulation.now.config.now) simulation.now.limit
         session.old }
     requires none { session.old.lines.items ≡ [] }
-    ensures typed { IfOk result (HasTyped (R.remaining reader.old)
-        (kept_in session.new.lines.items)) }
+    ensures typed { IfOk result (λ ended. Prints (W.contents out.old) (W.contents out.new)
+        (HasTyped (Stands P.predicts simulation.now.predict
+        (setup_of simulation.now.image.now simulation.now.config.now) simulation.now.limit) why
+        (R.remaining reader.old) (standing_of session.new) ended)) }
     ensures session { OnOk result (IsSession P.predicts simulation.now.predict
         (setup_of simulation.now.image.now simulation.now.config.now) simulation.now.limit
         session.new) }
-    ensures printed { OnOk result
-        (Prints (W.contents out.old) (W.contents out.new) (λ text. Unit {0})) }
 {
     // Counted, so that it provably ends: nobody types 2^64 lines.
     for _turn in 0..u64::MAX {
@@ -125,6 +127,8 @@ fn answer_all<P: Predict + Copy, R: BufRead, W: Write>(
             None => {}
         }
     }
+    show_sign(out)?;
+    complain(Complaint::Unread, out)?;
     Ok(Ended::Unread)
 }
 
@@ -139,14 +143,12 @@ fn answer_next<P: Predict + Copy, R: BufRead, W: Write>(
     requires { IsSession P.predicts simulation.now.predict
         (setup_of simulation.now.image.now simulation.now.config.now) simulation.now.limit
         session.old }
-    ensures turn { IfOk result (IsTurn (R.remaining reader.old)
-        (R.remaining reader.new) (kept_in session.old.lines.items)
-        (kept_in session.new.lines.items)) }
+    ensures turn { IfOk result (λ ended. Prints (W.contents out.old) (W.contents out.new)
+        (IsTurn why (R.remaining reader.old) (R.remaining reader.new) (standing_of session.old)
+        (standing_of session.new) ended)) }
     ensures session { OnOk result (IsSession P.predicts simulation.now.predict
         (setup_of simulation.now.image.now simulation.now.config.now) simulation.now.limit
         session.new) }
-    ensures printed { OnOk result
-        (Prints (W.contents out.old) (W.contents out.new) (λ text. Unit {0})) }
 {
     show_sign(out)?;
     let line = match next_line(reader, simulation.alloc) {
@@ -163,16 +165,28 @@ fn answer_next<P: Predict + Copy, R: BufRead, W: Write>(
     if let Some(Command::Quit) = read_command(line.as_slice()) {
         return Ok(Some(Ended::Quit));
     }
-    match session.answer(simulation, why, line.as_slice()) {
-        Ok(text) => put(text.as_slice(), out)?,
-        Err(complaint) => complain(complaint, out)?,
-    }
+    let answer = session.answer(simulation, why, line.as_slice());
+    print_answer(answer, out)?;
     Ok(None)
+}
+
+/// Prints what a line is answered.
+fn print_answer<W: Write>(
+    answer: Result<Vec<u8>, Complaint>,
+    out: &mut W,
+) -> Result<(), Unwritten>
+    ensures { OnOk result
+        (Appends (W.contents out.old) (W.contents out.new) (answer_text answer)) }
+{
+    match answer {
+        Ok(text) => put(text.as_slice(), out),
+        Err(complaint) => complain(complaint, out),
+    }
 }
 
 /// Shows that a line may be typed.
 fn show_sign<W: Write>(out: &mut W) -> Result<(), Unwritten>
-    ensures { OnOk result (Appends (W.contents out.old) (W.contents out.new) SIGN.now) }
+    ensures { OnOk result (Appends (W.contents out.old) (W.contents out.new) sign) }
 {
     put(SIGN, out)?;
     match out.flush() {
@@ -184,12 +198,14 @@ fn show_sign<W: Write>(out: &mut W) -> Result<(), Unwritten>
 /// Says why a line does nothing.
 fn complain<W: Write>(complaint: Complaint, out: &mut W) -> Result<(), Unwritten>
     ensures { OnOk result
-        (Prints (W.contents out.old) (W.contents out.new) (λ text. Unit {0})) }
+        (Appends (W.contents out.old) (W.contents out.new) (complaint_text complaint)) }
 {
     put(line_of(complaint).as_bytes(), out)
 }
 
-fn line_of(complaint: Complaint) -> ArrayString<64> {
+fn line_of(complaint: Complaint) -> ArrayString<64>
+    ensures { result.bytes ≡ complaint_text complaint }
+{
     let mut line = ArrayString::new();
     line.push_str("smtsim: ");
     match complaint {

@@ -1,12 +1,16 @@
 //! The lines that are kept, the core that they come to, and what each line is answered.
 
-ghost use Rattle.std.specs.Prelude.{◌≡◌, ◌≢◌, ◌∷◌, ◌++◌, ◌-◌, [], IfOk, IfErr, OnOk, OnErr, All, true, false, Err, length, take};
+ghost use Rattle.std.specs.Prelude.{◌≡◌, ◌∷◌, ◌++◌, ◌-◌, [], IfOk, OnOk, OnErr, All, true, false};
+ghost use Rattle.std.specs.Prelude.{None, Err, drop, length, take};
 ghost use Rattle.core_state.specs.Setup.{setup_of};
 ghost use Rattle.smt_model.specs.Setup.{is_accepted};
-ghost use Rattle.scripts.specs.Script.{IsScript, IsInRange};
-ghost use Rattle.prompts.specs.Kept.{IsAnswered, AreInRange, kept_in, left_by, complaint_in};
-ghost use Rattle.prompts.specs.Kept.{AnswersWords};
-ghost use Rattle.prompts.specs.Session.{IsSession};
+ghost use Rattle.scripts.specs.Script.{IsInRange};
+ghost use Rattle.reports.specs.Tables.{AreTablesOf};
+ghost use Rattle.prompts.specs.Kept.{AreInRange, kept_in};
+ghost use Rattle.prompts.specs.Typed.{IsRead};
+ghost use Rattle.prompts.specs.Printed.{AreLinesOfAsks, IsChartOf, help_text};
+ghost use Rattle.prompts.specs.Answers.{Follows, IsAnswered, answer_text, complaint_in};
+ghost use Rattle.prompts.specs.Session.{IsSession, standing_of};
 ghost use Rattle.prompts.specs.declared.session.Complaint.TheVariants.{Memory};
 
 use crate::command::{Command, read_command};
@@ -109,8 +113,8 @@ impl Session {
         requires { IsSession P.predicts simulation.now.predict
             (setup_of simulation.now.image.now simulation.now.config.now) simulation.now.limit
             self.old }
-        ensures answered { IsAnswered line.now (complaint_in result)
-            (kept_in self.old.lines.items) (kept_in self.new.lines.items) }
+        ensures answered { IsAnswered why line.now (complaint_in result) (standing_of self.old)
+            (standing_of self.new) (answer_text result) }
         ensures session { IsSession P.predicts simulation.now.predict
             (setup_of simulation.now.image.now simulation.now.config.now) simulation.now.limit
             self.new }
@@ -133,8 +137,8 @@ impl Session {
         requires { IsSession P.predicts simulation.now.predict
             (setup_of simulation.now.image.now simulation.now.config.now) simulation.now.limit
             self.old }
-        ensures done { OnOk result (kept_in self.new.lines.items
-            ≡ left_by command (kept_in self.old.lines.items)) }
+        ensures done { IfOk result (λ text. Follows command (standing_of self.old)
+            (standing_of self.new) text.items) }
         ensures left { OnErr result (self.new ≡ self.old) }
         ensures session { IsSession P.predicts simulation.now.predict
             (setup_of simulation.now.image.now simulation.now.config.now) simulation.now.limit
@@ -146,7 +150,7 @@ impl Session {
             Command::Show => tables_of(&self.asked.core, alloc),
             Command::Why => explained(simulation, self.lines.as_slice(), &self.asked),
             Command::Chart => chart_of(&self.asked.core, alloc),
-            Command::Help => copy_of(HELP, alloc),
+            Command::Help => help(alloc),
             Command::Quit => Ok(Vec::new(alloc)),
         }
     }
@@ -161,6 +165,7 @@ impl Session {
             self.old }
         ensures done { OnOk result (self.new.lines.items
             ≡ take (length self.old.lines.items - 1) self.old.lines.items) }
+        ensures silent { IfOk result (λ text. text.items ≡ []) }
         ensures left { OnErr result (self.new ≡ self.old) }
         ensures session { IsSession P.predicts simulation.now.predict
             (setup_of simulation.now.image.now simulation.now.config.now) simulation.now.limit
@@ -187,11 +192,12 @@ impl Session {
         why: bool,
         line: &[u8],
     ) -> Result<Vec<u8>, Complaint>
-        requires { IsSession P.predicts simulation.now.predict
+        requires session { IsSession P.predicts simulation.now.predict
             (setup_of simulation.now.image.now simulation.now.config.now) simulation.now.limit
             self.old }
-        ensures answered { AnswersWords line.now (complaint_in result)
-            (kept_in self.old.lines.items) (kept_in self.new.lines.items) }
+        requires words { IsRead line.now None }
+        ensures answered { IsAnswered why line.now (complaint_in result) (standing_of self.old)
+            (standing_of self.new) (answer_text result) }
         ensures session { IsSession P.predicts simulation.now.predict
             (setup_of simulation.now.image.now simulation.now.config.now) simulation.now.limit
             self.new }
@@ -219,7 +225,9 @@ impl Session {
             self.old }
         requires in_range { All (λ word. IsInRange word.action) words.items }
         ensures kept { OnOk result (self.new.lines.items ≡ self.old.lines.items ++ words ∷ []) }
-        ensures left { OnErr result (self.new.lines.items ≡ self.old.lines.items) }
+        ensures text { IfOk result (λ text. AreLinesOfAsks why self.old.asked.text.items
+            self.new.asked.text.items text.items) }
+        ensures left { OnErr result (standing_of self.new ≡ standing_of self.old) }
         ensures session { IsSession P.predicts simulation.now.predict
             (setup_of simulation.now.image.now simulation.now.config.now) simulation.now.limit
             self.new }
@@ -242,6 +250,8 @@ impl Session {
     ) -> Result<Vec<u8>, AllocError>
         requires { AreInRange (kept_in self.old.lines.items) }
         ensures lines { self.new.lines.items ≡ self.old.lines.items }
+        ensures text { IfOk result (λ text. AreLinesOfAsks why self.old.asked.text.items
+            self.new.asked.text.items text.items) }
         ensures left { OnErr result (self.new.asked ≡ self.old.asked) }
         ensures session { OnOk result (IsSession P.predicts simulation.now.predict
             (setup_of simulation.now.image.now simulation.now.config.now) simulation.now.limit
@@ -254,10 +264,7 @@ impl Session {
         let text = if why {
             explained(simulation, self.lines.as_slice(), &asked)?
         } else {
-            copy_of(
-                behind(asked.text.as_slice(), self.asked.text.len()),
-                simulation.alloc,
-            )?
+            last_lines(&asked, self.asked.text.len(), simulation.alloc)?
         };
         self.asked = asked;
         Ok(text)
@@ -271,6 +278,7 @@ fn explained<P: Predict + Copy>(
     asked: &Asked,
 ) -> Result<Vec<u8>, AllocError>
     requires { AreInRange (kept_in lines.now) }
+    ensures { lines.now ≡ [] → IfOk result (λ text. text.items ≡ []) }
 {
     let count = lines.len();
     if count == 0 {
@@ -289,8 +297,17 @@ fn explained<P: Predict + Copy>(
     }
 }
 
+/// What a core has answered behind so many bytes.
+fn last_lines(asked: &Asked, count: usize, alloc: Global) -> Result<Vec<u8>, AllocError>
+    ensures { IfOk result (λ text. text.items ≡ drop count asked.now.text.items) }
+{
+    copy_of(behind(asked.text.as_slice(), count), alloc)
+}
+
 /// What stands behind so many bytes of a text.
-fn behind(text: &[u8], count: usize) -> &[u8] {
+fn behind(text: &[u8], count: usize) -> &[u8]
+    ensures { result.now ≡ drop count text.now }
+{
     if count > text.len() {
         return &[];
     }
@@ -298,7 +315,9 @@ fn behind(text: &[u8], count: usize) -> &[u8] {
 }
 
 /// The tables of a core.
-fn tables_of(core: &Core, alloc: Global) -> Result<Vec<u8>, AllocError> {
+fn tables_of(core: &Core, alloc: Global) -> Result<Vec<u8>, AllocError>
+    ensures { IfOk result (λ text. AreTablesOf core.now text.items) }
+{
     let mut text = Vec::new(alloc);
     match write_tables(core, &mut text) {
         Ok(()) => Ok(text),
@@ -307,7 +326,9 @@ fn tables_of(core: &Core, alloc: Global) -> Result<Vec<u8>, AllocError> {
 }
 
 /// The pipeline of a core's history.
-fn chart_of(core: &Core, alloc: Global) -> Result<Vec<u8>, AllocError> {
+fn chart_of(core: &Core, alloc: Global) -> Result<Vec<u8>, AllocError>
+    ensures { IfOk result (λ text. IsChartOf core.now text.items) }
+{
     let events = listed(core.history(), alloc)?;
     let rows = rows_of(events.as_slice(), alloc)?;
     let view = View::new(0, u32::MAX, None, events.len());
@@ -329,7 +350,17 @@ fn listed(history: &History, alloc: Global) -> Result<Vec<Event>, AllocError>
     Ok(events)
 }
 
-fn copy_of(text: &[u8], alloc: Global) -> Result<Vec<u8>, AllocError> {
+/// What the prompt says of its own words.
+#[tactic(auto, unfolding(crate::specs::Printed::help_text))]
+fn help(alloc: Global) -> Result<Vec<u8>, AllocError>
+    ensures { IfOk result (λ text. text.items ≡ help_text) }
+{
+    copy_of(HELP, alloc)
+}
+
+fn copy_of(text: &[u8], alloc: Global) -> Result<Vec<u8>, AllocError>
+    ensures { IfOk result (λ copy. copy.items ≡ text.now) }
+{
     let mut copy = Vec::new(alloc);
     copy.extend_from_slice(text)?;
     Ok(copy)

@@ -1,7 +1,8 @@
 //! The lines that are typed, as they are read.
 
 ghost use Rattle.prompts.specs.Typed.{IsNextLine};
-ghost use Rattle.std.specs.Prelude.{IfOk, IfSome, MatchOption};
+ghost use Rattle.prompts.specs.Prompted.{IsUnread};
+ghost use Rattle.std.specs.Prelude.{IfErr, IfOk, MatchOption};
 ghost use Rattle.std.specs.Io.KnownBytes.{IsAtEnd};
 
 use crate::session::Complaint;
@@ -15,8 +16,9 @@ pub(crate) fn next_line<R: BufRead>(
     reader: &mut R,
     alloc: Global,
 ) -> Result<Option<Vec<u8>>, Complaint>
-    ensures { IfOk result (λ read. MatchOption read (IsAtEnd (R.remaining reader.old))
+    ensures read { IfOk result (λ read. MatchOption read (IsAtEnd (R.remaining reader.old))
         (λ line. IsNextLine (R.remaining reader.old) line.items (R.remaining reader.new))) }
+    ensures unread { IfErr result IsUnread }
 {
     let mut line = Vec::new(alloc);
     match reader.read_until(b'\n', &mut line) {
@@ -30,7 +32,9 @@ pub(crate) fn next_line<R: BufRead>(
 }
 
 /// Why a line couldn't be read.
-fn why_unread(error: &Error) -> Complaint {
+fn why_unread(error: &Error) -> Complaint
+    ensures { IsUnread result }
+{
     match error.kind() {
         ErrorKind::OutOfMemory => Complaint::Memory,
         _ => Complaint::Unread,

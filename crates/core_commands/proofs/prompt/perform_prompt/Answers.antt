@@ -34,9 +34,9 @@ returns g c =
       ended =
           with_both answer _ _ _ account.traced reported
           (λ traced status reported. prompt_comes_to g.P.Predict.predicts c.args.context.now.predict c.args.settings.now
-          (g.B.Read.remaining c.args.reader.now) (wants_of c.args.wanted)
+          c.args.why (g.B.Read.remaining c.args.reader.now) (wants_of c.args.wanted)
           (marks_of c.args.labels.now) _ c.args.image.now c.in-Ok.prompted.ended
-          c.in-Ok.prompted.core c.in-Ok.prompted.idle _ _ _ status accepted came.prompted came.printed traced reported);
+          c.in-Ok.prompted.core c.in-Ok.prompted.idle _ _ _ status accepted came.prompted traced reported);
       unwanted = account.unwanted;
       unbroken = account.unbroken;
       finished = account.finished;

@@ -1,25 +1,17 @@
-use Rattle.std.proofs.Common.{ap}
-use Rattle.text_fields.specs.Printing.{Prints}
-use Rattle.prompts.proofs.Turns.{Anything, prints_more, prints_text, prints_into}
-use Rattle.prompts.proofs.prompting.answer_next.Goals.{in-Ok+in_ok-put-in-Ok, in-Err-answer+in_ok-complain-in-Err-answer}
+use Rattle.prompts.specs.Session.{standing_of}
+use Rattle.prompts.proofs.Turns.{answered_turn, unread_turn}
 use Rattle.prompts.proofs.prompting.answer_next.Goals as goal
 
-pub returns-in-Ok-None-clause-printed : goal.returns-in-Ok-None-clause-printed
-returns-in-Ok-None-clause-printed g c =
-    prints_more _ _ _ (prints_text _ _ _ c.in_ok-show_sign.ensures) (prints_text _ _ _ c.in_ok-put-in-Ok-None.ensures)
+pub returns-in-Err-clause-turn : goal.returns-in-Err-clause-turn
+returns-in-Err-clause-turn g c =
+    unread_turn c.args.why (g.R.Read.remaining c.args.reader.now) (g.R.Read.remaining c.next_line.new.reader)
+    (standing_of c.args.session.now) _ _ _ c.in-Err.complaint c.in_ok-show_sign.ensures c.in_ok-complain-in-Err.ensures
+    c.in-Err.ensures.unread
 
-pub returns-in-Err-clause-printed : goal.returns-in-Err-clause-printed
-returns-in-Err-clause-printed g c =
-    prints_more _ _ _ (prints_text _ _ _ c.in_ok-show_sign.ensures) c.in_ok-complain-in-Err.ensures
-
-pub returns-clause-printed : goal.returns-clause-printed
-returns-clause-printed g c =
-    let contents = g.W.Write.contents in
-    let answered : Prints (contents c.show_sign.new.out) (contents c.match-answer.out) Anything =
-    elim c.match-answer.branch [
-      | in-Ok+in_ok-put-in-Ok w ↦
-          prints_into _ _ _ (ap contents w.out-is) (prints_text _ _ _ w.in_ok-put-in-Ok.ensures)
-      | in-Err-answer+in_ok-complain-in-Err-answer w ↦
-          prints_into _ _ _ (ap contents w.out-is) w.in_ok-complain-in-Err-answer.ensures
-    ] in
-    prints_more _ _ _ (prints_text _ _ _ c.in_ok-show_sign.ensures) answered
+pub returns-clause-turn : goal.returns-clause-turn
+returns-clause-turn g c =
+    answered_turn c.args.why (g.R.Read.remaining c.args.reader.now) (g.R.Read.remaining c.next_line.new.reader)
+    (standing_of c.args.session.now) _ _ _ (standing_of c.answer-answer.new.self) c.in-Ok-Some.line.items
+    c.answer-answer.result c.in_ok-show_sign.ensures c.in_ok-print_answer.ensures
+    (rw c.in-Ok-Some.field-0-is at c.in-Ok-Some.ensures.read)
+    (rw c.as_slice-2.ensures.value at c.answer-answer.ensures.answered)
