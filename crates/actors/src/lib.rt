@@ -23,5 +23,5 @@ mod turns;
 pub use core_lock::{IdleAsks, Unlocked};
 pub use gate::{Gate, Open, Point};
 pub use refused::RunRefused;
-pub use running::run;
+pub use running::{run, run_counted};
 pub use static_predictor::StaticPredictor;

@@ -20,7 +20,7 @@ use crate::start::start;
 use core_lock::{BOARD_WORDS, Board, LockedCore, Seat, Unlocked};
 use elf_image::Image;
 use numbers::sizes::MOST_ACTORS;
-use smt_core::{Config, Core, CoreRefused, Predict};
+use smt_core::{Config, Core, CoreRefused, Finished, Predict};
 use std::alloc::Global;
 use std::marker::Brand;
 use std::sync::Wait;
@@ -45,12 +45,40 @@ struct Plan<'a, G: Gate> {
 /// joined, also where the run is refused in between. Where it is refused for its configuration or
 /// its roles, or wants memory for its core, neither is called.
 ///
-/// What it finished with has the idle asks of each actor as the lock of the core has counted them.
-///
 /// `Config` is refused where the configuration or the limit isn't one of a core, and then `Roles`
 /// where no actor has some role, both before anything is asked of the core. `Memory` and `Thread`
 /// are refused where there isn't enough memory, and where a thread can't be started.
 pub fn run<G: Gate + Sync, P: Predict + Copy + Send, R: Threads + Wait + Sync>(
+    rt: &R,
+    image: &Image,
+    config: Config,
+    limit: u32,
+    turns: u64,
+    gate: &G,
+    predict: P,
+    alloc: Global,
+) -> Result<Finished, RunRefused>
+    ensures config { (result ≡ Err refused.Config)
+        ↔ (is_accepted (setup_of image.now config) limit ≡ false) }
+    ensures roles { (result ≡ Err refused.Roles)
+        ↔ (is_accepted (setup_of image.now config) limit ≡ true)
+        × (HaveEveryRole config.roles.items → ⊥) }
+    ensures setup { IfOk result (λ finished. finished.core.setup ≡ setup_of image.now config) }
+    ensures limit { IfOk result (λ finished. finished.core.limit ≡ limit) }
+    ensures own { IfOk result (λ finished. IsTrue finished.own) }
+    ensures counted { IfOk result (λ finished. sum finished.counts ≡ length finished.core.past) }
+    ensures told { IfOk result
+        (λ finished. IsTrue finished.told → AreCounts finished.core.past finished.counts) }
+    ensures shown { IfOk result (λ finished. Shown finished.core) }
+{
+    match run_counted(rt, image, config, limit, turns, gate, predict, alloc) {
+        Ok(unlocked) => Ok(unlocked.finished),
+        Err(refused) => Err(refused),
+    }
+}
+
+/// The same, with the idle asks of each actor as the lock of the core has counted them.
+pub fn run_counted<G: Gate + Sync, P: Predict + Copy + Send, R: Threads + Wait + Sync>(
     rt: &R,
     image: &Image,
     config: Config,
@@ -187,7 +215,7 @@ fn run_core<
     };
     let started = start(rt, &shared, predict, &mut passes, seats, alloc);
     let Shared { core, .. } = shared;
-    only_if(started, core.finish(passes, plan.image, plan.config))
+    only_if(started, core.unlock(passes, plan.image, plan.config))
 }
 
 /// What a run comes to: what is left of its core, where all of its threads were started.

@@ -111,7 +111,7 @@ fn run_locked<G: Gate + Sync, P: Predict + Copy + Send, R: Threads + Wait + Sync
 {
     let config = settings.config.copied();
     let (limit, turns) = (settings.limit, settings.turns);
-    match actors::run(rt, image, config, limit, turns, gate, predict, alloc) {
+    match actors::run_counted(rt, image, config, limit, turns, gate, predict, alloc) {
         Ok(unlocked) => Ok(unlocked),
         Err(why) => Err(refused_run(why)),
     }

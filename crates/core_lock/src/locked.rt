@@ -15,7 +15,7 @@ use crate::reader::CoreReader;
 use crate::unlocked::Unlocked;
 use elf_image::Image;
 use numbers::sizes::MOST_ACTORS;
-use smt_core::{Config, Core, Predict};
+use smt_core::{Config, Core, Finished, Predict};
 use std::hint::spin_loop;
 use std::sync::ledger::Blank;
 use std::sync::{Mutex, MutexGuard, Wait};
@@ -106,7 +106,22 @@ impl<L: Origin> LockedCore<L> {
     /// events of the history; `told` says that at each place k lies actor k's pass with that
     /// actor's count and last event; `own` says that the core is of this image and this
     /// configuration. `idle` are the numbers that the lock has counted.
-    pub fn finish(self, passes: [Pass<L>; MOST_ACTORS], image: &Image, config: &Config) -> Unlocked
+    pub fn finish(self, passes: [Pass<L>; MOST_ACTORS], image: &Image, config: &Config) -> Finished
+        requires { L.parts ≡ most_actors }
+        ensures counts { result.counts ≡ map (λ p. p.count) passes }
+        ensures sum { sum result.counts ≡ length result.core.past }
+        ensures told { IsTrue result.told
+            ↔ ((k : ℕ) (p : _) → slice_get passes k ≡ Some p
+            → (p.actor ≡ k) × IsTold result.core.past p.actor p.count p.last) }
+        ensures own { IsTrue result.own ↔ (result.core.setup ≡ setup_of image.now config.now) }
+        ensures origin { (result.core.setup ≡ L.setup) × (result.core.limit ≡ L.limit) }
+        ensures shown { Shown result.core }
+    {
+        self.unlock(passes, image, config).finished
+    }
+
+    /// The same, with the lock's own counts of idle asks beside it.
+    pub fn unlock(self, passes: [Pass<L>; MOST_ACTORS], image: &Image, config: &Config) -> Unlocked
         requires { L.parts ≡ most_actors }
         ensures counts { result.finished.counts ≡ map (λ p. p.count) passes }
         ensures idle { result.finished.idle ≡ result.asks.each }

@@ -7,7 +7,7 @@ mod looking;
 use crate::asking::one_of_each;
 use crate::first_program::{End, FIRST_END, end_of, first_image};
 use crate::rows::counts;
-use actors::{Gate, Open, RunRefused, StaticPredictor, Unlocked, run};
+use actors::{Gate, Open, RunRefused, StaticPredictor, run};
 use smt_core::{Config, Finished, Status};
 use std::alloc::Global;
 use std::sync::Wait;
@@ -25,7 +25,7 @@ fn first_run<G: Gate + Sync, R: Threads + Wait + Sync>(
     turns: u64,
     gate: &G,
     alloc: Global,
-) -> Option<Result<Unlocked, RunRefused>> {
+) -> Option<Result<Finished, RunRefused>> {
     let image = first_image(alloc)?;
     Some(run(
         rt,
@@ -77,7 +77,7 @@ fn first_run_end<R: Threads + Wait + Sync>(
     alloc: Global,
 ) -> Option<RunEnd> {
     let ran = first_run(rt, one_of_each(1), limit, turns, &Open, alloc)?;
-    Some(seen_of(&ran.ok()?.finished))
+    Some(seen_of(&ran.ok()?))
 }
 
 #[test]

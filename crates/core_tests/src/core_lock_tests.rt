@@ -183,7 +183,7 @@ fn two_with<L: Origin + Send + Sync, R: Threads + Wait + Sync>(
         p19, p20, p21, p22, p23, p24, p25, p26, p27, p28, p29, p30, p31,
     ];
     Joined {
-        finished: core.finish(passes, image, &config()).finished,
+        finished: core.finish(passes, image, &config()),
         first_agreed,
         second_agreed,
     }

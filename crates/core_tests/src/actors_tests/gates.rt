@@ -43,7 +43,7 @@ impl Gate for ShutAt {
 fn end_behind<R: Threads + Wait + Sync>(rt: &R, shut: Point, alloc: Global) -> Option<RunEnd> {
     let gate = ShutAt(shut);
     let ran = first_run(rt, one_of_each(1), 1000, MANY_TURNS, &gate, alloc)?;
-    Some(seen_of(&ran.ok()?.finished))
+    Some(seen_of(&ran.ok()?))
 }
 
 #[test]
@@ -105,7 +105,7 @@ fn ends_well<R: Threads + Wait + Sync>(rt: &R, shut: u64, alloc: Global) -> Opti
         StaticPredictor,
         alloc,
     );
-    let finished = ran.ok()?.finished;
+    let finished = ran.ok()?;
     let events = history_of(&finished.core, alloc).ok()?;
     let is_legal = check(&image, one_of_each(1), events.as_slice(), alloc).is_ok();
     let end = seen_of(&finished);

@@ -91,7 +91,7 @@ fn seen_of(watcher: &Watcher, finished: &Finished) -> Seen {
 fn seen_in_a_run<R: Threads + Wait + Sync>(rt: &R, alloc: Global) -> Option<Seen> {
     let watcher = Watcher::new(alloc).ok()?;
     let ran = first_run(rt, one_of_each(1), 1000, MANY_TURNS, &watcher, alloc)?;
-    Some(seen_of(&watcher, &ran.ok()?.finished))
+    Some(seen_of(&watcher, &ran.ok()?))
 }
 
 // Each of these four has to make its last event in a turn before which it had posted two: three

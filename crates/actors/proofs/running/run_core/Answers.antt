@@ -14,9 +14,9 @@ IsLate why = (why ≡ Memory) ⊎ (why ≡ Thread)
 
 pub returns-clause-ran : goal.returns-clause-ran
 returns-clause-ran g c =
-    let finished = c.finish.ensures in
+    let finished = c.unlock.ensures in
     let setup = finished.origin.0 ∙ sym c.requires.origin.0 in
-    let is_run : HasRun c.args.core c.finish.result.finished = record {
+    let is_run : HasRun c.args.core c.unlock.result.finished = record {
       setup = setup;
       limit = finished.origin.1 ∙ sym c.requires.origin.1;
       own = finished.own.1 (setup ∙ c.requires.image);

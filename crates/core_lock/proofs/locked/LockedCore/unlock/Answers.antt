@@ -1,4 +1,4 @@
-use Rattle.core_lock.proofs.locked.LockedCore.finish.Goals as goal
+use Rattle.core_lock.proofs.locked.LockedCore.unlock.Goals as goal
 
 pub returns-clause-own : goal.returns-clause-own
 returns-clause-own g c = c.finish.ensures.own

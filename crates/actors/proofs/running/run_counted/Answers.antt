@@ -2,7 +2,7 @@ use Rattle.std.proofs.Common.{◌∙◌}
 use Rattle.std.proofs.lemmas.Result.{IfOk-weaker}
 use Rattle.actors.specs.declared.refused.RunRefused.TheVariants.{Config, Roles}
 use Rattle.actors.proofs.Refusing.{handed_on, neither, begun}
-use Rattle.actors.proofs.running.run.Goals as goal
+use Rattle.actors.proofs.running.run_counted.Goals as goal
 
 pub returns-in-Err-clause-config : goal.returns-in-Err-clause-config
 returns-in-Err-clause-config g c = handed_on _ _ _ Config c.in-Err.ensures.config
