@@ -287,12 +287,15 @@ pub alone_comes_to : (harts : Option ℕ) (config : List ℕ) (image second : Re
     (status : ℕ) → ExplainComesTo harts (Ok config) image old new status
     → ExplainLineComesTo harts None (Ok config) image second old new status
 alone_comes_to harts config (Ok file) second old new status told =
-    let (settings, configured, text, both, appends) = told.printed in
-    (
+    let (settings, configured, text, both, appends) = told.printed in (
       settings,
       configured,
-      (both.accepted.passes, both.accepted.image, both.accepted.is_image,
-      (accepted_of config settings configured, (new, told, refl))),
+      (
+        both.accepted.passes,
+        both.accepted.image,
+        both.accepted.is_image,
+        (accepted_of config settings configured, (new, told, refl)),
+      ),
     )
 alone_comes_to harts config (Err why) second old new status told = absurd told.printed.2
 

@@ -50,7 +50,12 @@ fn write_counts<W: Write>(symbols: &Symbols<'_>, out: &mut W) -> io::Result<()>
     ensures { OnOk result
         (Appends (W.contents out.old) (W.contents out.new) (names_line symbols.now.symbols.items)) }
 {
-    write_counted(symbols.functions(), symbols.objects(), symbols.labels(), out)
+    write_counted(
+        symbols.functions(),
+        symbols.objects(),
+        symbols.labels(),
+        out,
+    )
 }
 
 #[tactic(auto, unfolding(crate::specs::ImageText::counts_line))]
