@@ -1,6 +1,6 @@
 use Rattle.address_labels.specs.Labels.{marks_of}
 use Rattle.core_commands.specs.Wanted.{wants_of}
-use Rattle.core_commands.proofs.OfRun.{report_refusal, tells}
+use Rattle.core_commands.proofs.OfRun.{tells}
 use Rattle.core_commands.proofs.run.perform_run.Goals as goal
 
 pub returns-in-Ok-clause-ended : goal.returns-in-Ok-clause-ended
@@ -12,8 +12,3 @@ returns-in-Ok-clause-ended g c =
     c.in_ok-unlocked.unlocked.finished.core c.in_ok-unlocked.unlocked.finished.idle _ _ _ _ c.in-Ok.status
     did.accepted did.manned did.ran.setup did.ran.limit did.ran.shown account.traced reported
     c.in_ok-unlocked.unlocked.counted
-
-pub returns-in-Err-clause-refused : goal.returns-in-Err-clause-refused
-returns-in-Err-clause-refused g c =
-    let did = c.in_ok-unlocked.ensures in
-    report_refusal c.args.settings.now c.in-Err.refused did.accepted did.manned c.in-Err.ensures.refused
