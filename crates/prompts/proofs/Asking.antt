@@ -77,16 +77,16 @@ pub chart_is : (core : CoreView) (items events : List Event) (rows : List Row) (
     → (AreByFetch rows → Appends (Some start) (Some text) (chart_text 80 marks view rows)) → IsChartOf core text
 chart_is core items events rows start text marks view count past within small same are by_fetch none unmarked seen long
     drawn =
-        let as_long : length items ≡ length core.past = sym (length-reverse items) ∙ ap length past in
-        let few : length core.past ≤ most_events = omega (arith, within, small, as_long) in
-        let all : view ≡ view_of 0 (length core.past - 1) None (length core.past) =
-        seen ∙ ap (λ (n : ℕ). view_of 0 4294967295 None n) (long ∙ as_long) ∙ whole (length core.past) few in
-        record {
-          rows = rows;
-          are_rows = subst (λ l. AreRows l rows) (ap reverse same ∙ past) are;
-          drawn = drawn by_fetch ∙ ap (λ s. s ++ chart_text 80 marks view rows) none
-              ∙ ap (λ m. chart_text 80 m view rows) unmarked ∙ ap (λ v. chart_text 80 no_marks v rows) all;
-        }
+    let as_long : length items ≡ length core.past = sym (length-reverse items) ∙ ap length past in
+    let few : length core.past ≤ most_events = omega (arith, within, small, as_long) in
+    let all : view ≡ view_of 0 (length core.past - 1) None (length core.past) =
+    seen ∙ ap (λ (n : ℕ). view_of 0 4294967295 None n) (long ∙ as_long) ∙ whole (length core.past) few in
+    record {
+      rows = rows;
+      are_rows = subst (λ l. AreRows l rows) (ap reverse same ∙ past) are;
+      drawn = drawn by_fetch ∙ ap (λ s. s ++ chart_text 80 marks view rows) none
+          ∙ ap (λ m. chart_text 80 m view rows) unmarked ∙ ap (λ v. chart_text 80 no_marks v rows) all;
+    }
 
 -- A copy of a configuration makes the same core.
 pub same_setup : (image : ProgramImage) (a b : Config) → (a.harts ≡ b.harts) × (a.extra ≡ b.extra) × (a.queue ≡ b.queue)

@@ -1,8 +1,8 @@
 -- One line after another.
-use Rattle.std.specs.Prelude.{◌≡◌, ℕ, Bool, List, [], ◌∷◌, ◌++◌, codes, Option, Some, None, Vec, Result}
+use Rattle.std.specs.Prelude.{◌≡◌, ℕ, Bool, List, [], ◌∷◌, ◌++◌, Option, Some, None, Vec, Result}
 use Rattle.std.proofs.Common.{refl, sym, ap, subst, ◌∙◌, arith}
 use Rattle.std.proofs.lemmas.Grind.{common_steps}
-use Rattle.std.specs.Io.KnownBytes.{Appends, IsAtEnd}
+use Rattle.std.specs.Io.KnownBytes.{Appends}
 use Rattle.std.proofs.KnownBytes.{Appends-nil, Keeps-refl}
 use Rattle.text_fields.specs.Printing.{Prints}
 use Rattle.text_fields.proofs.Appending.{appends_more}
@@ -12,7 +12,7 @@ use Rattle.prompts.specs.declared.session.Complaint.TheVariants.{Unread}
 use Rattle.prompts.specs.declared.session.Session.{Session as AnySession}
 use Rattle.prompts.specs.declared.prompting.Ended.{Ended}
 use Rattle.prompts.specs.declared.prompting.Ended.TheVariants as ended
-use Rattle.prompts.specs.{Typed.IsRead, Typed.IsNextLine, Printed.sign, Printed.complaint_text}
+use Rattle.prompts.specs.{Typed.IsNextLine, Printed.sign, Printed.complaint_text}
 use Rattle.prompts.specs.Answers.{IsAnswered, complaint_in, answer_text}
 use Rattle.prompts.specs.Prompted.{Typed, HaveCome, HasTyped, IsPrompted, IsUnread, printed_of}
 use Rattle.prompts.specs.{Kept.kept_in, Kept.Standing, Kept.Stands}

@@ -171,10 +171,7 @@ fn answer_next<P: Predict + Copy, R: BufRead, W: Write>(
 }
 
 /// Prints what a line is answered.
-fn print_answer<W: Write>(
-    answer: Result<Vec<u8>, Complaint>,
-    out: &mut W,
-) -> Result<(), Unwritten>
+fn print_answer<W: Write>(answer: Result<Vec<u8>, Complaint>, out: &mut W) -> Result<(), Unwritten>
     ensures { OnOk result
         (Appends (W.contents out.old) (W.contents out.new) (answer_text answer)) }
 {
