@@ -73,7 +73,7 @@ pub fn run<G: Gate + Sync, P: Predict + Copy + Send, R: Threads + Wait + Sync>(
 {
     match run_counted(rt, image, config, limit, turns, gate, predict, alloc) {
         Ok(unlocked) => Ok(unlocked.finished),
-        Err(refused) => Err(refused),
+        Err(why) => Err(why),
     }
 }
 
