@@ -1,33 +1,31 @@
 //! The search for all outcomes of a program, or for some.
 
-ghost use Rattle.std.specs.Prelude.{◌≡◌, ◌<◌, ℕ, true, Contains, IfOk, IfErr, IfSome, OnOk, length, map};
+ghost use Rattle.std.specs.Prelude.{◌≡◌, true, Contains, IfOk, IfErr, OnOk};
 ghost use Rattle.condensed_machine.specs.Decoded.{Knows};
 ghost use Rattle.condensed_machine.specs.Machine.{IsSound};
 ghost use Rattle.condensed_machine.specs.Steps.{Steps, HasBegun};
 ghost use Rattle.condensed_machine.specs.declared.begun.Begun.{Begun};
 ghost use Rattle.condensed_machine.specs.declared.state.State.{State};
-ghost use Rattle.searches.specs.{Found.IsExplored, Found.IsToldFor, Ending.IsLeastStuck};
-ghost use Rattle.searches.specs.declared.extent.Extent.TheVariants.{Whole};
+ghost use Rattle.searches.specs.{Found.IsExplored, Found.IsToldFor};
 ghost use Rattle.outcomes.specs.{Found.IsOnce, Parts.IsListing, Parts.IsAskedFor};
-ghost use Rattle.outcomes.specs.{Collected.IsAskedAt, Collected.is_unwritten};
+ghost use Rattle.outcomes.specs.{Collected.IsAskedAt};
 ghost use Rattle.outcomes.specs.Refusals.{IsRefusedFor, AreWords, AreWatched};
 ghost use Rattle.outcomes.specs.Passes.{IsUnfoundFor, IsCutShort};
 ghost use Rattle.outcomes.specs.declared.refused.OutcomesRefused.TheVariants.{Memory};
 ghost use Rattle.watched_outcomes.specs.Watching.{AreThere};
 
-use crate::collecting::list_outcomes;
 use crate::ending_goal::EndingGoal;
+use crate::ends::{Ends, ends_of};
 use crate::first_jumps::first_jumps;
 use crate::outcomes::Outcomes;
 use crate::refused::OutcomesRefused;
 use crate::unfound::Unfound;
 use crate::until::Until;
-use crate::unwritten::list_unwritten;
 use condensed_machine::{Begun, CondensedMachine, State, Way};
 use elf_image::Image;
 use live_registers::Targets;
 use sc_machine::PlainRefused;
-use searches::{Explored, Extent, Onlooker, Search, Unmade, explore};
+use searches::{Explored, Onlooker, Unmade, explore};
 use std::alloc::{AllocError, Global};
 use watched_outcomes::{Watch, WatchedBytes};
 
@@ -285,17 +283,16 @@ fn outcomes_of<U: Until>(
     ensures refused { IfErr result (λ why. why ≡ Memory) }
 {
     let Explored { search, extent } = explored;
-    let Ok(listed) = list_outcomes(&machine, &search, watch, alloc) else {
-        return Err(OutcomesRefused::Memory);
-    };
-    let Ok(stuck) = stuck_of(&search, extent, alloc) else {
-        return Err(OutcomesRefused::Memory);
-    };
-    let Ok(unwritten) = unwritten_of(&machine, &search, extent, watch, alloc) else {
+    let Ok(ends) = ends_of(&machine, &search, extent, watch, alloc) else {
         return Err(OutcomesRefused::Memory);
     };
     let harts = machine.harts();
     let ways = begun.ways;
+    let Ends {
+        listed,
+        stuck,
+        unwritten,
+    } = ends;
     Ok(Outcomes {
         harts,
         ways,
@@ -306,38 +303,4 @@ fn outcomes_of<U: Until>(
         stuck,
         unwritten,
     })
-}
-
-/// The place of a state that has no way to an end. A part of the states tells none. Errors: want of memory.
-fn stuck_of(
-    search: &Search<State, Way>,
-    extent: Extent,
-    alloc: Global,
-) -> Result<Option<u32>, AllocError>
-    ensures whole { IfOk result (λ stuck. extent ≡ Whole → IsLeastStuck search.now stuck) }
-    ensures inside { IfOk result (λ stuck. IfSome stuck (λ place. place < length search.now.states)) }
-{
-    match extent {
-        Extent::Whole => search.stuck(alloc),
-        Extent::Beyond | Extent::First => Ok(None),
-    }
-}
-
-/// What is watched for nothing. A part of the states doesn't tell it. Errors: want of memory.
-fn unwritten_of(
-    machine: &CondensedMachine,
-    search: &Search<State, Way>,
-    extent: Extent,
-    watch: &Watch,
-    alloc: Global,
-) -> Result<Vec<bool>, AllocError>
-    requires known { (s : State) → Contains search.now.states s → Knows machine.now s }
-    requires words { AreWords machine.now.program.image watch.now }
-    ensures { IfOk result (λ unwritten. extent ≡ Whole
-        → unwritten.items ≡ map (is_unwritten machine.now search.now.states) watch.now.words.items) }
-{
-    match extent {
-        Extent::Whole => list_unwritten(machine, search, watch, alloc),
-        Extent::Beyond | Extent::First => Ok(Vec::new(alloc)),
-    }
 }

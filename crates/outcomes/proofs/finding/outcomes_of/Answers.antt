@@ -10,24 +10,24 @@ invariant_of-result g c = record {
   places = λ l at.
       let end = c.in-Ok.ensures.outcomes.each l at in
       slice_get_within c.args.explored.search.states l.place end.state end.at;
-  stuck = c.in-Ok-stuck_of.ensures.inside;
+  stuck = c.in-Ok.ensures.inside;
 }
 
 pub returns-clause-found : goal.returns-clause-found
 returns-clause-found g c =
     listing c.args.machine c.args.begun c.args.explored.search c.requires.sound c.requires.begun c.args.budget
     c.args.explored.extent c.requires.explored c.args.watch.now c.requires.watched c.requires.registers
-    c.in-Ok.listed.items c.in-Ok.ensures.outcomes c.in-Ok-stuck_of.stuck c.in-Ok-stuck_of.ensures.whole
-    c.in-Ok-unwritten_of.unwritten.items c.in-Ok-unwritten_of.ensures c.harts.result c.harts.ensures.value
-    c.requires.known c.harts.ensures.distinct
+    c.in-Ok.ends.listed.items c.in-Ok.ensures.outcomes c.in-Ok.ends.stuck c.in-Ok.ensures.stuck
+    c.in-Ok.ends.unwritten.items c.in-Ok.ensures.unwritten c.harts.result c.harts.ensures.value c.requires.known
+    c.harts.ensures.distinct c.into_rows.result c.into_rows.ensures
 
 pub returns-clause-asked : goal.returns-clause-asked
 returns-clause-asked g c =
     asked_told (g.U.Until.Asks c.args.until.now) c.args.machine c.args.watch.now c.args.explored.search
-    c.args.explored.extent c.in-Ok.listed.items c.in-Ok.ensures.outcomes c.requires.asked
-    (told_of c.args.machine.rows c.args.begun.ways c.harts.result c.args.explored.search.origins) (λ l. refl)
+    c.args.explored.extent c.in-Ok.ends.listed.items c.in-Ok.ensures.outcomes c.requires.asked
+    (told_of c.into_rows.result c.args.begun.ways c.harts.result c.args.explored.search.origins) (λ l. refl)
 
 pub returns-clause-once : goal.returns-clause-once
 returns-clause-once g c =
-    once_told (told_of c.args.machine.rows c.args.begun.ways c.harts.result c.args.explored.search.origins) c.in-Ok.listed.items (λ l. refl)
-    c.in-Ok.ensures.once
+    once_told (told_of c.into_rows.result c.args.begun.ways c.harts.result c.args.explored.search.origins)
+    c.in-Ok.ends.listed.items (λ l. refl) c.in-Ok.ensures.once
