@@ -6,7 +6,7 @@ ghost use Rattle.condensed_machine.specs.Decoded.{Knows};
 ghost use Rattle.condensed_machine.specs.declared.state.State.{State};
 ghost use Rattle.searches.specs.{Ending.IsLeastStuck};
 ghost use Rattle.searches.specs.declared.extent.Extent.TheVariants.{Whole};
-ghost use Rattle.outcomes.specs.{Collected.AreOutcomes, Collected.is_unwritten, Lists.AreOnce};
+ghost use Rattle.outcomes.specs.{Collected.is_unwritten, Ended.AreEnds};
 ghost use Rattle.outcomes.specs.Refusals.{AreWords};
 ghost use Rattle.watched_outcomes.specs.Watching.{AreThere};
 
@@ -39,18 +39,15 @@ pub(crate) fn ends_of(
     requires known { (s : State) → Contains search.now.states s → Knows machine.now s }
     requires registers { AreThere machine.now.program.harts watch.now }
     requires words { AreWords machine.now.program.image watch.now }
-    ensures outcomes { IfOk result (λ ends. AreOutcomes machine.now watch.now search.now.states
-        search.now.ends ends.listed.items) }
-    ensures once { IfOk result (λ ends. AreOnce ends.listed.items) }
-    ensures stuck { IfOk result (λ ends. extent ≡ Whole → IsLeastStuck search.now ends.stuck) }
-    ensures inside { IfOk result (λ ends. IfSome ends.stuck (λ place. place < length search.now.states)) }
-    ensures unwritten { IfOk result (λ ends. extent ≡ Whole
-        → ends.unwritten.items ≡ map (is_unwritten machine.now search.now.states) watch.now.words.items) }
+    ensures { IfOk result (AreEnds machine.now watch.now search.now extent) }
 {
+    let listed = list_outcomes(machine, search, watch, alloc)?;
+    let stuck = stuck_of(search, extent, alloc)?;
+    let unwritten = unwritten_of(machine, search, extent, watch, alloc)?;
     Ok(Ends {
-        listed: list_outcomes(machine, search, watch, alloc)?,
-        stuck: stuck_of(search, extent, alloc)?,
-        unwritten: unwritten_of(machine, search, extent, watch, alloc)?,
+        listed,
+        stuck,
+        unwritten,
     })
 }
 

@@ -8,10 +8,9 @@ ghost use Rattle.condensed_machine.specs.declared.begun.Begun.{Begun};
 ghost use Rattle.condensed_machine.specs.declared.state.State.{State};
 ghost use Rattle.searches.specs.{Found.IsExplored, Found.IsToldFor};
 ghost use Rattle.outcomes.specs.{Found.IsOnce, Parts.IsListing, Parts.IsAskedFor};
-ghost use Rattle.outcomes.specs.{Collected.IsAskedAt};
+ghost use Rattle.outcomes.specs.{Collected.IsAskedAt, Ended.AreEnds};
 ghost use Rattle.outcomes.specs.Refusals.{IsRefusedFor, AreWords, AreWatched};
 ghost use Rattle.outcomes.specs.Passes.{IsUnfoundFor, IsCutShort};
-ghost use Rattle.outcomes.specs.declared.refused.OutcomesRefused.TheVariants.{Memory};
 ghost use Rattle.watched_outcomes.specs.Watching.{AreThere};
 
 use crate::ending_goal::EndingGoal;
@@ -162,6 +161,14 @@ fn new_machine(
     }
 }
 
+/// What a pass has seen: how it began, the states, and what is told of them.
+#[derive(Drop)]
+struct Seen {
+    begun: Begun,
+    explored: Explored<State, Way>,
+    ends: Ends,
+}
+
 /// Finds outcomes of a machine that knows no state.
 fn search_all<O: Onlooker, U: Until>(
     machine: CondensedMachine,
@@ -183,21 +190,55 @@ fn search_all<O: Onlooker, U: Until>(
         machine.program.targets) }
 {
     let mut machine = machine;
-    match check_watch(&machine, watch) {
+    match see_all(&mut machine, watch, budget, onlooker, until, alloc) {
+        Ok(seen) => Ok(outcomes_of(machine, seen, watch, budget, until)),
+        Err(why) => Err(why),
+    }
+}
+
+/// Visits all states of a machine that knows none, or a part, and sees what is to be told of them.
+fn see_all<O: Onlooker, U: Until>(
+    machine: &mut CondensedMachine,
+    watch: &Watch,
+    budget: u32,
+    onlooker: &O,
+    until: &U,
+    alloc: Global,
+) -> Result<Seen, Unfound>
+    ensures program { machine.new.program ≡ machine.old.program }
+    ensures registers { OnOk result (AreThere machine.new.program.harts watch.now) }
+    ensures words { OnOk result (AreWords machine.new.program.image watch.now) }
+    ensures begun { IfOk result (λ seen. HasBegun machine.new seen.begun) }
+    ensures explored { IfOk result (λ seen. IsExplored (Steps machine.new) machine.new.program.harts
+        seen.begun.state budget seen.explored.search seen.explored.extent) }
+    ensures known { IfOk result (λ seen. (s : State) → Contains seen.explored.search.states s
+        → Knows machine.new s) }
+    ensures asked { IfOk result (λ seen. IsToldFor (IsAskedAt (U.Asks until.now) machine.new watch.now)
+        seen.explored.search seen.explored.extent) }
+    ensures ends { IfOk result (λ seen. AreEnds machine.new watch.now seen.explored.search
+        seen.explored.extent seen.ends) }
+    ensures unfound { IfErr result (IsUnfoundFor machine.old.program.image machine.old.program.harts
+        watch.now machine.old.program.targets) }
+{
+    match check_watch(machine, watch) {
         Ok(()) => {}
         Err(why) => return Err(Unfound::Refused(why)),
     }
     let Ok(begun) = machine.begin() else {
         return Err(Unfound::Refused(OutcomesRefused::Memory));
     };
-    let explored = match search_from(&mut machine, begun, watch, budget, onlooker, until, alloc) {
+    let explored = match search_from(machine, begun, watch, budget, onlooker, until, alloc) {
         Ok(explored) => explored,
         Err(why) => return Err(why),
     };
-    let Ok(found) = outcomes_of(machine, begun, explored, watch, budget, until, alloc) else {
+    let Ok(ends) = ends_of(machine, &explored.search, explored.extent, watch, alloc) else {
         return Err(Unfound::Refused(OutcomesRefused::Memory));
     };
-    Ok(found)
+    Ok(Seen {
+        begun,
+        explored,
+        ends,
+    })
 }
 
 /// Looks whether all that is watched is there.
@@ -255,52 +296,43 @@ fn search_from<O: Onlooker, U: Until>(
     }
 }
 
-/// The outcomes of a search's ends; and, where it was whole, whether each state can go on to one, and what is
-/// watched for nothing.
+/// The outcomes that a pass has seen, with the machine's rows.
 fn outcomes_of<U: Until>(
     machine: CondensedMachine,
-    begun: Begun,
-    explored: Explored<State, Way>,
+    seen: Seen,
     watch: &Watch,
     budget: u32,
     until: &U,
-    alloc: Global,
-) -> Result<Outcomes, OutcomesRefused>
+) -> Outcomes
     requires sound { IsSound machine.program }
     requires watched { AreWatched machine.program.watched watch.now }
     requires registers { AreThere machine.program.harts watch.now }
-    requires words { AreWords machine.program.image watch.now }
-    requires begun { HasBegun machine begun }
-    requires explored { IsExplored (Steps machine) machine.program.harts begun.state budget
-        explored.search explored.extent }
-    requires known { (s : State) → Contains explored.search.states s → Knows machine s }
-    requires asked { IsToldFor (IsAskedAt (U.Asks until.now) machine watch.now) explored.search
-        explored.extent }
-    ensures found { IfOk result
-        (IsListing machine.program.image machine.program.harts watch.now budget) }
-    ensures once { IfOk result IsOnce }
-    ensures asked { IfOk result (IsAskedFor (U.Asks until.now)) }
-    ensures refused { IfErr result (λ why. why ≡ Memory) }
+    requires begun { HasBegun machine seen.begun }
+    requires explored { IsExplored (Steps machine) machine.program.harts seen.begun.state budget
+        seen.explored.search seen.explored.extent }
+    requires known { (s : State) → Contains seen.explored.search.states s → Knows machine s }
+    requires asked { IsToldFor (IsAskedAt (U.Asks until.now) machine watch.now) seen.explored.search
+        seen.explored.extent }
+    requires ends { AreEnds machine watch.now seen.explored.search seen.explored.extent seen.ends }
+    ensures found { IsListing machine.program.image machine.program.harts watch.now budget result }
+    ensures once { IsOnce result }
+    ensures asked { IsAskedFor (U.Asks until.now) result }
 {
-    let Explored { search, extent } = explored;
-    let Ok(ends) = ends_of(&machine, &search, extent, watch, alloc) else {
-        return Err(OutcomesRefused::Memory);
-    };
     let harts = machine.harts();
+    let Seen {
+        begun,
+        explored,
+        ends,
+    } = seen;
     let ways = begun.ways;
-    let Ends {
-        listed,
-        stuck,
-        unwritten,
-    } = ends;
-    Ok(Outcomes {
+    Outcomes {
         harts,
         ways,
         rows: machine.into_rows(),
-        search,
-        extent,
-        listed,
-        stuck,
-        unwritten,
-    })
+        search: explored.search,
+        extent: explored.extent,
+        listed: ends.listed,
+        stuck: ends.stuck,
+        unwritten: ends.unwritten,
+    }
 }
