@@ -31,14 +31,17 @@ module _ (m : Machine) (begun : Begun) (graph_of : Graph State Way) (sound : IsS
     (are : extent ≡ Whole → unwritten ≡ map (is_unwritten m graph_of.states) watch.words.items)
     (n : ℕ) (same : n ≡ m.program.harts) (known : (s : State) → Contains graph_of.states s → Knows m s)
     (distinct : AreDistinct m) where
-  abbrev found : Found
-  found = record {
+  abbrev found_by : List (List ℕ) → Found
+  found_by rows = record {
     extent = extent;
-    listed = map (told_of m.rows begun.ways n graph_of.origins) listed;
+    listed = map (told_of rows begun.ways n graph_of.origins) listed;
     states = length graph_of.states;
-    stuck = option_map (order_at m.rows begun.ways n graph_of.origins) stuck;
+    stuck = option_map (order_at rows begun.ways n graph_of.origins) stuck;
     unwritten = unwritten;
   }
+
+  abbrev found : Found
+  found = found_by m.rows
 
   exact : extent ≡ Whole → (setup : Setup) → setup.image ≡ m.program.image → setup.harts ≡ m.program.harts
       → IsExactList setup watch found
@@ -69,8 +72,8 @@ module _ (m : Machine) (begun : Begun) (graph_of : Graph State Way) (sound : IsS
         reaches_many setup m begun sound begins image harts first_known distinct more.0 more.1 more.3,
       )
 
-  pub listing : IsListing m.program.image m.program.harts watch budget found
-  listing = record {
+  listing_of : IsListing m.program.image m.program.harts watch budget found
+  listing_of = record {
     sound = λ setup image harts.
         each_sound setup m begun sound begins image harts graph_of
         part watch marked there listed outcomes.each n same;
@@ -81,3 +84,9 @@ module _ (m : Machine) (begun : Begun) (graph_of : Graph State Way) (sound : IsS
     count = count;
     beyond = beyond;
   }
+
+  -- So it is for whoever has the machine's rows.
+  pub listing : (rows : List (List ℕ)) → rows ≡ m.rows
+      → IsListing m.program.image m.program.harts watch budget (found_by rows)
+  listing rows same_rows =
+      subst (λ them. IsListing m.program.image m.program.harts watch budget (found_by them)) (sym same_rows) listing_of

@@ -1,5 +1,6 @@
 pub mod Lists
 pub mod Collected
+pub mod Ended
 pub mod Found
 pub mod Told
 pub mod Reached

@@ -1,5 +1,5 @@
 -- What callers see of the outcomes that a search has found.
-use Rattle.std.specs.Prelude.{ℕ, ◌<◌, ◌≤◌, List, ◌∷◌, ◌++◌, Contains, replicate, map, flat_map, length}
+use Rattle.std.specs.Prelude.{ℕ, ◌<◌, ◌≤◌, List, ◌∷◌, ◌++◌, Contains, map, flat_map, length}
 use Rattle.std.specs.Prelude.{option_map, slice_get, IfSome, Option}
 use Rattle.numbers.specs.Sizes.{most_harts}
 use Rattle.searches.specs.declared.{moves.Move.Move, origin.Origin.Origin}

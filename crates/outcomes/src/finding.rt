@@ -1,33 +1,30 @@
 //! The search for all outcomes of a program, or for some.
 
-ghost use Rattle.std.specs.Prelude.{◌≡◌, ◌<◌, ℕ, true, Contains, IfOk, IfErr, IfSome, OnOk, length, map};
+ghost use Rattle.std.specs.Prelude.{◌≡◌, true, Contains, IfOk, IfErr, OnOk};
 ghost use Rattle.condensed_machine.specs.Decoded.{Knows};
 ghost use Rattle.condensed_machine.specs.Machine.{IsSound};
 ghost use Rattle.condensed_machine.specs.Steps.{Steps, HasBegun};
 ghost use Rattle.condensed_machine.specs.declared.begun.Begun.{Begun};
 ghost use Rattle.condensed_machine.specs.declared.state.State.{State};
-ghost use Rattle.searches.specs.{Found.IsExplored, Found.IsToldFor, Ending.IsLeastStuck};
-ghost use Rattle.searches.specs.declared.extent.Extent.TheVariants.{Whole};
+ghost use Rattle.searches.specs.{Found.IsExplored, Found.IsToldFor};
 ghost use Rattle.outcomes.specs.{Found.IsOnce, Parts.IsListing, Parts.IsAskedFor};
-ghost use Rattle.outcomes.specs.{Collected.IsAskedAt, Collected.is_unwritten};
+ghost use Rattle.outcomes.specs.{Collected.IsAskedAt, Ended.AreEnds};
 ghost use Rattle.outcomes.specs.Refusals.{IsRefusedFor, AreWords, AreWatched};
 ghost use Rattle.outcomes.specs.Passes.{IsUnfoundFor, IsCutShort};
-ghost use Rattle.outcomes.specs.declared.refused.OutcomesRefused.TheVariants.{Memory};
 ghost use Rattle.watched_outcomes.specs.Watching.{AreThere};
 
-use crate::collecting::list_outcomes;
 use crate::ending_goal::EndingGoal;
+use crate::ends::{Ends, ends_of};
 use crate::first_jumps::first_jumps;
 use crate::outcomes::Outcomes;
 use crate::refused::OutcomesRefused;
 use crate::unfound::Unfound;
 use crate::until::Until;
-use crate::unwritten::list_unwritten;
 use condensed_machine::{Begun, CondensedMachine, State, Way};
 use elf_image::Image;
 use live_registers::Targets;
 use sc_machine::PlainRefused;
-use searches::{Explored, Extent, Onlooker, Search, Unmade, explore};
+use searches::{Explored, Onlooker, Unmade, explore};
 use std::alloc::{AllocError, Global};
 use watched_outcomes::{Watch, WatchedBytes};
 
@@ -164,6 +161,14 @@ fn new_machine(
     }
 }
 
+/// What a pass has seen: how it began, the states, and what is told of them.
+#[derive(Drop)]
+struct Seen {
+    begun: Begun,
+    explored: Explored<State, Way>,
+    ends: Ends,
+}
+
 /// Finds outcomes of a machine that knows no state.
 fn search_all<O: Onlooker, U: Until>(
     machine: CondensedMachine,
@@ -185,21 +190,55 @@ fn search_all<O: Onlooker, U: Until>(
         machine.program.targets) }
 {
     let mut machine = machine;
-    match check_watch(&machine, watch) {
+    match see_all(&mut machine, watch, budget, onlooker, until, alloc) {
+        Ok(seen) => Ok(outcomes_of(machine, seen, watch, budget, until)),
+        Err(why) => Err(why),
+    }
+}
+
+/// Visits all states of a machine that knows none, or a part, and sees what is to be told of them.
+fn see_all<O: Onlooker, U: Until>(
+    machine: &mut CondensedMachine,
+    watch: &Watch,
+    budget: u32,
+    onlooker: &O,
+    until: &U,
+    alloc: Global,
+) -> Result<Seen, Unfound>
+    ensures program { machine.new.program ≡ machine.old.program }
+    ensures registers { OnOk result (AreThere machine.new.program.harts watch.now) }
+    ensures words { OnOk result (AreWords machine.new.program.image watch.now) }
+    ensures begun { IfOk result (λ seen. HasBegun machine.new seen.begun) }
+    ensures explored { IfOk result (λ seen. IsExplored (Steps machine.new) machine.new.program.harts
+        seen.begun.state budget seen.explored.search seen.explored.extent) }
+    ensures known { IfOk result (λ seen. (s : State) → Contains seen.explored.search.states s
+        → Knows machine.new s) }
+    ensures asked { IfOk result (λ seen. IsToldFor (IsAskedAt (U.Asks until.now) machine.new watch.now)
+        seen.explored.search seen.explored.extent) }
+    ensures ends { IfOk result (λ seen. AreEnds machine.new watch.now seen.explored.search
+        seen.explored.extent seen.ends) }
+    ensures unfound { IfErr result (IsUnfoundFor machine.old.program.image machine.old.program.harts
+        watch.now machine.old.program.targets) }
+{
+    match check_watch(machine, watch) {
         Ok(()) => {}
         Err(why) => return Err(Unfound::Refused(why)),
     }
     let Ok(begun) = machine.begin() else {
         return Err(Unfound::Refused(OutcomesRefused::Memory));
     };
-    let explored = match search_from(&mut machine, begun, watch, budget, onlooker, until, alloc) {
+    let explored = match search_from(machine, begun, watch, budget, onlooker, until, alloc) {
         Ok(explored) => explored,
         Err(why) => return Err(why),
     };
-    let Ok(found) = outcomes_of(machine, begun, explored, watch, budget, until, alloc) else {
+    let Ok(ends) = ends_of(machine, &explored.search, explored.extent, watch, alloc) else {
         return Err(Unfound::Refused(OutcomesRefused::Memory));
     };
-    Ok(found)
+    Ok(Seen {
+        begun,
+        explored,
+        ends,
+    })
 }
 
 /// Looks whether all that is watched is there.
@@ -257,87 +296,43 @@ fn search_from<O: Onlooker, U: Until>(
     }
 }
 
-/// The outcomes of a search's ends; and, where it was whole, whether each state can go on to one, and what is
-/// watched for nothing.
+/// The outcomes that a pass has seen, with the machine's rows.
 fn outcomes_of<U: Until>(
     machine: CondensedMachine,
-    begun: Begun,
-    explored: Explored<State, Way>,
+    seen: Seen,
     watch: &Watch,
     budget: u32,
     until: &U,
-    alloc: Global,
-) -> Result<Outcomes, OutcomesRefused>
+) -> Outcomes
     requires sound { IsSound machine.program }
     requires watched { AreWatched machine.program.watched watch.now }
     requires registers { AreThere machine.program.harts watch.now }
-    requires words { AreWords machine.program.image watch.now }
-    requires begun { HasBegun machine begun }
-    requires explored { IsExplored (Steps machine) machine.program.harts begun.state budget
-        explored.search explored.extent }
-    requires known { (s : State) → Contains explored.search.states s → Knows machine s }
-    requires asked { IsToldFor (IsAskedAt (U.Asks until.now) machine watch.now) explored.search
-        explored.extent }
-    ensures found { IfOk result
-        (IsListing machine.program.image machine.program.harts watch.now budget) }
-    ensures once { IfOk result IsOnce }
-    ensures asked { IfOk result (IsAskedFor (U.Asks until.now)) }
-    ensures refused { IfErr result (λ why. why ≡ Memory) }
+    requires begun { HasBegun machine seen.begun }
+    requires explored { IsExplored (Steps machine) machine.program.harts seen.begun.state budget
+        seen.explored.search seen.explored.extent }
+    requires known { (s : State) → Contains seen.explored.search.states s → Knows machine s }
+    requires asked { IsToldFor (IsAskedAt (U.Asks until.now) machine watch.now) seen.explored.search
+        seen.explored.extent }
+    requires ends { AreEnds machine watch.now seen.explored.search seen.explored.extent seen.ends }
+    ensures found { IsListing machine.program.image machine.program.harts watch.now budget result }
+    ensures once { IsOnce result }
+    ensures asked { IsAskedFor (U.Asks until.now) result }
 {
-    let Explored { search, extent } = explored;
-    let Ok(listed) = list_outcomes(&machine, &search, watch, alloc) else {
-        return Err(OutcomesRefused::Memory);
-    };
-    let Ok(stuck) = stuck_of(&search, extent, alloc) else {
-        return Err(OutcomesRefused::Memory);
-    };
-    let Ok(unwritten) = unwritten_of(&machine, &search, extent, watch, alloc) else {
-        return Err(OutcomesRefused::Memory);
-    };
     let harts = machine.harts();
+    let Seen {
+        begun,
+        explored,
+        ends,
+    } = seen;
     let ways = begun.ways;
-    Ok(Outcomes {
+    Outcomes {
         harts,
         ways,
         rows: machine.into_rows(),
-        search,
-        extent,
-        listed,
-        stuck,
-        unwritten,
-    })
-}
-
-/// The place of a state that has no way to an end. A part of the states tells none. Errors: want of memory.
-fn stuck_of(
-    search: &Search<State, Way>,
-    extent: Extent,
-    alloc: Global,
-) -> Result<Option<u32>, AllocError>
-    ensures whole { IfOk result (λ stuck. extent ≡ Whole → IsLeastStuck search.now stuck) }
-    ensures inside { IfOk result (λ stuck. IfSome stuck (λ place. place < length search.now.states)) }
-{
-    match extent {
-        Extent::Whole => search.stuck(alloc),
-        Extent::Beyond | Extent::First => Ok(None),
-    }
-}
-
-/// What is watched for nothing. A part of the states doesn't tell it. Errors: want of memory.
-fn unwritten_of(
-    machine: &CondensedMachine,
-    search: &Search<State, Way>,
-    extent: Extent,
-    watch: &Watch,
-    alloc: Global,
-) -> Result<Vec<bool>, AllocError>
-    requires known { (s : State) → Contains search.now.states s → Knows machine.now s }
-    requires words { AreWords machine.now.program.image watch.now }
-    ensures { IfOk result (λ unwritten. extent ≡ Whole
-        → unwritten.items ≡ map (is_unwritten machine.now search.now.states) watch.now.words.items) }
-{
-    match extent {
-        Extent::Whole => list_unwritten(machine, search, watch, alloc),
-        Extent::Beyond | Extent::First => Ok(Vec::new(alloc)),
+        search: explored.search,
+        extent: explored.extent,
+        listed: ends.listed,
+        stuck: ends.stuck,
+        unwritten: ends.unwritten,
     }
 }

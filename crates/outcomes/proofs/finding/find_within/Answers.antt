@@ -1,5 +1,8 @@
+use Rattle.std.proofs.Common.{OnOk}
 use Rattle.outcomes.specs.Parts.{IsListing}
-use Rattle.outcomes.proofs.Programs.{of_same, unfound_of_same}
+use Rattle.outcomes.specs.Refusals.{AreWords}
+use Rattle.watched_outcomes.specs.Watching.{AreThere}
+use Rattle.outcomes.proofs.Programs.{of_same, so_of_same, unfound_of_same}
 use Rattle.outcomes.proofs.finding.find_within.Goals as goal
 
 pub returns-clause-found : goal.returns-clause-found
@@ -11,3 +14,8 @@ pub returns-clause-unfound : goal.returns-clause-unfound
 returns-clause-unfound g c =
     unfound_of_same _ _ _ _ c.args.watch.now c.in-Ok.machine.program.targets c.args.targets c.search_all.result
     c.in-Ok.ensures.image c.in-Ok.ensures.harts c.in-Ok.ensures.anywhere c.search_all.ensures.unfound
+
+pub returns-clause-present : goal.returns-clause-present
+returns-clause-present g c =
+    so_of_same (λ image harts. OnOk c.search_all.result (AreThere harts c.args.watch.now × AreWords image c.args.watch.now))
+    _ _ _ _ c.in-Ok.ensures.image c.in-Ok.ensures.harts c.search_all.ensures.present

@@ -6,28 +6,28 @@ use Rattle.outcomes.proofs.finding.outcomes_of.Goals as goal
 
 pub invariant_of-result : goal.invariant_of-result
 invariant_of-result g c = record {
-  harts = c.harts.ensures.few;
+  harts = c.harts-harts.ensures.few;
   places = λ l at.
-      let end = c.in-Ok.ensures.outcomes.each l at in
-      slice_get_within c.args.explored.search.states l.place end.state end.at;
-  stuck = c.in-Ok-stuck_of.ensures.inside;
+      let end = c.requires.ends.outcomes.each l at in
+      slice_get_within c.args.seen.explored.search.states l.place end.state end.at;
+  stuck = c.requires.ends.inside;
 }
 
 pub returns-clause-found : goal.returns-clause-found
 returns-clause-found g c =
-    listing c.args.machine c.args.begun c.args.explored.search c.requires.sound c.requires.begun c.args.budget
-    c.args.explored.extent c.requires.explored c.args.watch.now c.requires.watched c.requires.registers
-    c.in-Ok.listed.items c.in-Ok.ensures.outcomes c.in-Ok-stuck_of.stuck c.in-Ok-stuck_of.ensures.whole
-    c.in-Ok-unwritten_of.unwritten.items c.in-Ok-unwritten_of.ensures c.harts.result c.harts.ensures.value
-    c.requires.known c.harts.ensures.distinct
+    listing c.args.machine c.args.seen.begun c.args.seen.explored.search c.requires.sound c.requires.begun c.args.budget
+    c.args.seen.explored.extent c.requires.explored c.args.watch.now c.requires.watched c.requires.registers
+    c.args.seen.ends.listed.items c.requires.ends.outcomes c.args.seen.ends.stuck c.requires.ends.stuck
+    c.args.seen.ends.unwritten.items c.requires.ends.unwritten c.harts-harts.result c.harts-harts.ensures.value c.requires.known
+    c.harts-harts.ensures.distinct c.into_rows.result c.into_rows.ensures
 
 pub returns-clause-asked : goal.returns-clause-asked
 returns-clause-asked g c =
-    asked_told (g.U.Until.Asks c.args.until.now) c.args.machine c.args.watch.now c.args.explored.search
-    c.args.explored.extent c.in-Ok.listed.items c.in-Ok.ensures.outcomes c.requires.asked
-    (told_of c.args.machine.rows c.args.begun.ways c.harts.result c.args.explored.search.origins) (λ l. refl)
+    asked_told (g.U.Until.Asks c.args.until.now) c.args.machine c.args.watch.now c.args.seen.explored.search
+    c.args.seen.explored.extent c.args.seen.ends.listed.items c.requires.ends.outcomes c.requires.asked
+    (told_of c.into_rows.result c.args.seen.begun.ways c.harts-harts.result c.args.seen.explored.search.origins) (λ l. refl)
 
 pub returns-clause-once : goal.returns-clause-once
 returns-clause-once g c =
-    once_told (told_of c.args.machine.rows c.args.begun.ways c.harts.result c.args.explored.search.origins) c.in-Ok.listed.items (λ l. refl)
-    c.in-Ok.ensures.once
+    once_told (told_of c.into_rows.result c.args.seen.begun.ways c.harts-harts.result c.args.seen.explored.search.origins)
+    c.args.seen.ends.listed.items (λ l. refl) c.requires.ends.once
