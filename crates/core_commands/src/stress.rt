@@ -64,7 +64,8 @@ pub fn perform_stress<
     ensures refused { IfErr result
         (IsStressRefusal settings.now image.now (table_of names.now) command.now) }
     ensures ended { IfOk result (StressComesTo settings.now image.now (table_of names.now) command.now times
-        (AreMade (LeavesCore M.step) make_run.old make_run.new) (AreEndsWritten F.begins F.written F.has_failed context.old.files context.new.files (is_some command.now.keep)
+        (AreMade (LeavesCore M.step) make_run.old make_run.new)
+        (AreEndsWritten F.begins F.written F.has_failed context.old.files context.new.files (is_some command.now.keep)
         (table_of names.now)) (W.contents context.old.out) (W.contents context.new.out)) }
     ensures unwanted { is_some command.now.keep ≡ false → context.new.files ≡ context.old.files }
     ensures unbroken { OnOk result (F.has_failed context.new.files ≡ false) }
@@ -178,7 +179,8 @@ pub(crate) fn tally_runs<
     requires finished { F.is_finished context.old.files ≡ true }
     ensures refused { IfErr result (IsRunRefusal settings.now) }
     ensures tallied { IfOk result (HasTallied settings.now image.now watch.now
-        (AreMade (LeavesCore M.step) make_run.old make_run.new) (AreEndsWritten F.begins F.written F.has_failed context.old.files context.new.files keep (table_of names.now)
+        (AreMade (LeavesCore M.step) make_run.old make_run.new)
+        (AreEndsWritten F.begins F.written F.has_failed context.old.files context.new.files keep (table_of names.now)
         watch.now) count) }
     ensures unwanted { keep ≡ false → context.new.files ≡ context.old.files }
     ensures unbroken { OnOk result (F.has_failed context.new.files ≡ false) }
@@ -233,7 +235,8 @@ impl Runs<'_> {
         requires finished { F.is_finished files.old ≡ true }
         ensures refused { IfErr result (IsRunRefusal self.now.settings.now) }
         ensures tallied { IfOk result (HasTallied self.now.settings.now self.now.image.now self.now.watch.now
-            (AreMade (LeavesCore M.step) make_run.old make_run.new) (AreEndsWritten F.begins F.written F.has_failed files.old files.new keep (table_of self.now.names.now)
+            (AreMade (LeavesCore M.step) make_run.old make_run.new)
+            (AreEndsWritten F.begins F.written F.has_failed files.old files.new keep (table_of self.now.names.now)
             self.now.watch.now) count) }
         ensures unwanted { keep ≡ false → files.new ≡ files.old }
         ensures unbroken { OnOk result (F.has_failed files.new ≡ false) }
@@ -263,7 +266,8 @@ impl Runs<'_> {
         ensures refused { IfErr result (IsRunRefusal self.now.settings.now) }
         ensures callable { M.IsAlwaysCallable make_run.new }
         ensures ran { OnOk result (HasRunOnce self.now.settings.now self.now.image.now self.now.watch.now
-            (λ core. LeavesCore M.step make_run.old core make_run.new) (IsEndWritten F.begins F.written F.has_failed files.old files.new keep (table_of self.now.names.now)
+            (λ core. LeavesCore M.step make_run.old core make_run.new)
+            (IsEndWritten F.begins F.written F.has_failed files.old files.new keep (table_of self.now.names.now)
             self.now.watch.now) tally.old tally.new) }
         ensures unwanted { keep ≡ false → files.new ≡ files.old }
         ensures unbroken { OnOk result (F.has_failed files.new ≡ false) }

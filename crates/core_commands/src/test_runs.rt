@@ -75,8 +75,8 @@ pub fn perform_test_runs<
 }
 
 /// Finds every final state of a litmus test, and where these are all has so many runs made of its image on the core of
-/// some settings, each by a call of `make_run` of its own, and prints to which states they come and how often. The image goes into
-/// the context's files before all that, where it is wanted.
+/// some settings, each by a call of `make_run` of its own, and prints to which states they come and how often. The
+/// image goes into the context's files before all that, where it is wanted.
 ///
 /// Answers the exit status: 0, or 3 where a run hasn't ended, or where there are more states than were to be looked at;
 /// then only that is said, and no run is made. A run is refused as that of `perform_run` is, and `Output` is answered
@@ -179,7 +179,8 @@ fn count_runs<
     requires finished { S.is_finished context.old.files ≡ true }
     ensures refused { IfErr result (IsRunsRefusal settings.now) }
     ensures counted { IfOk result (HasCounted test.now settings.now image.now watch.now outcomes.now.listed
-        (runs_of times) (AreMade (LeavesCore M.step) make_run.old make_run.new) (W.contents context.old.out) (W.contents context.new.out)) }
+        (runs_of times) (AreMade (LeavesCore M.step) make_run.old make_run.new) (W.contents context.old.out)
+        (W.contents context.new.out)) }
     ensures unwanted { context.new.files ≡ context.old.files }
 {
     let names = Symbols::none(context.alloc);
