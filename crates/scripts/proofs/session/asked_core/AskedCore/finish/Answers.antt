@@ -7,18 +7,18 @@ use Rattle.scripts.proofs.session.asked_core.AskedCore.finish.Goals as goal
 
 pub returns-clause-counts : goal.returns-clause-counts
 returns-clause-counts g c =
-    told_counts (λ p. p.actor) (λ p. p.count) (λ p. p.last) _ c.self.inside.passes _ c.finish.ensures.counts
+    told_counts (λ p. p.actor) (λ p. p.count) (λ p. p.last) _ c.self.inside.passes _ c.finish-finished.ensures.counts
     (subst (λ (v : CoreView). AllTold (λ p. p.actor) (λ p. p.count) (λ p. p.last) v.past c.self.inside.passes)
-    (sym c.finish.ensures.core) c.self.invariant)
+    (sym c.finish-finished.ensures.core) c.self.invariant)
 
 pub returns-clause-told : goal.returns-clause-told
 returns-clause-told g c =
-    c.finish.ensures.told.1
+    c.finish-finished.ensures.told.1
     (subst (λ (v : CoreView). AllTold (λ p. p.actor) (λ p. p.count) (λ p. p.last) v.past c.self.inside.passes)
-    (sym c.finish.ensures.core) c.self.invariant)
+    (sym c.finish-finished.ensures.core) c.self.invariant)
 
 pub returns-clause-core : goal.returns-clause-core
-returns-clause-core g c = c.finish.ensures.core ∙ ap (λ (v : Counted). v.core) c.self.view_is
+returns-clause-core g c = c.finish-finished.ensures.core ∙ ap (λ (v : Counted). v.core) c.self.view_is
 
 pub returns-clause-idle : goal.returns-clause-idle
-returns-clause-idle g c = c.finish.result.counted ∙ c.finish.ensures.idle ∙ ap (λ (v : Counted). v.idle) c.self.view_is
+returns-clause-idle g c = c.finish-finished.result.counted ∙ c.finish-finished.ensures.idle ∙ ap (λ (v : Counted). v.idle) c.self.view_is
