@@ -1,7 +1,7 @@
 -- SC of a hart that has no reservation fails, whatever the others do: as a step that is silent, it changes nothing but
 -- its own hart.
 use Rattle.std.proofs.Common.{◌≡◌, ℕ, Bool, true, false, Option, None, refl, ap, ◌∙◌, arith, inl, inr}
-use Rattle.std.specs.Prelude.{◌&&◌, ◌||◌, ◌==◌, not, if◌then◌else◌}
+use Rattle.std.specs.Prelude.{◌||◌, ◌==◌, not, if◌then◌else◌}
 use Rattle.std.proofs.lemmas.Bool.{cases_Bool, Decides.nat_tests}
 use Rattle.smt_model.specs.Words.{Op, Effect}
 use Rattle.smt_model.specs.{Setup.Setup, Exec.Computed, Nexts.is_last, Effects.effect_of, Effects.effect_by, Plain.Plain}
@@ -11,23 +11,8 @@ use Rattle.smt_model.specs.Plain.{op_at_pc, computes}
 use Rattle.smt_model.specs.Reservations.{holds_word, own_reservation, reservation_after}
 use Rattle.outcome_laws.specs.{Local.is_silent, Local.lacks_reservation, Tables.is_conditional}
 use Rattle.outcome_laws.proofs.Facts.{both_of, either_left, either_right, first_of_both, one_of_two, second_of_both}
-use Rattle.outcome_laws.proofs.{Local.fails_write, Local.fails_same, Silent.silent_step}
+use Rattle.outcome_laws.proofs.{Local.fails_write, Silent.silent_step}
 use Rattle.condensed_machine.specs.Settling.{IsFree, fails}
-
--- ---- What it does
-
--- Its effect is the same, whatever memory and reservations are, so far as a hart that is free has none.
-pub effect_whatever : (op : Op) (c : Computed) (free : Bool) (e : Effect) → (is_silent op c || fails free op) ≡ true
-    → e ≡ effect_of op c 0 false
-    → (now : ℕ) (held : Bool) → (free ≡ true → held ≡ false) → e ≡ effect_of op c now held
-effect_whatever op c free e followed is now held lacks =
-    is
-    ∙ elim (one_of_two (is_silent op c) (fails free op) followed) [
-      | inl silent ↦ (silent_step op c silent).same 0 now false held
-      | inr failing ↦
-          fails_same op c 0 now false held (second_of_both free (is_conditional (kind_of op)) failing) refl
-          (lacks (first_of_both free (is_conditional (kind_of op)) failing))
-    ]
 
 -- ---- What it leaves alone
 

@@ -7,8 +7,8 @@ use Rattle.condensed_machine.specs.Decoded.{hart_at, no_hart, no_shared, shared_
 use Rattle.condensed_machine.specs.Executing.{SharedAgrees}
 use Rattle.condensed_machine.specs.Numbering.{numbers_in}
 use Rattle.condensed_machine.specs.{Distinct.HaveOneForm, Machine.HaveCode}
-use Rattle.condensed_machine.specs.Moves.{AreMoves}
-use Rattle.condensed_machine.proofs.{Coded.code_at_start, Noted.moves_stay, Numbers.hart_of_number}
+use Rattle.condensed_machine.specs.{Losing.AreRests, Moves.AreMoves}
+use Rattle.condensed_machine.proofs.{Coded.code_at_start, Noted.moves_stay, Noted.rests_stay, Numbers.hart_of_number}
 use Rattle.condensed_machine.proofs.Turns.{settles_in_turn, shared_begins, numbers_within}
 use Rattle.condensed_machine.proofs.machine.CondensedMachine.begin.Goals as goal
 use Rattle.condensed_machine.proofs.machine.CondensedMachine.begin.Goals.{After-number_of_shared, After-first_harts}
@@ -38,6 +38,12 @@ moves_then c =
     c.self.inside.shared_states.keys c.number_of_shared.new.shared.keys c.first_harts.ensures.kept
     c.number_of_shared.ensures.kept c.self.inside.moves.entries c.self.invariant.moves
 
+rests_then : (c : After-first_harts) → AreRests c.self.inside.program c.first_harts.new.table.keys
+    c.self.inside.rests.entries
+rests_then c =
+    rests_stay c.self.inside.program c.self.inside.hart_states.keys c.first_harts.new.table.keys
+    c.first_harts.ensures.kept c.self.inside.rests.entries c.self.invariant.rests
+
 pub invariant_of-self : goal.invariant_of-self
 invariant_of-self c = record {
   sound = c.self.invariant.sound;
@@ -47,6 +53,7 @@ invariant_of-self c = record {
   code = codes (goal.at.invariant_of-self c).After-number_of_shared;
   forms = forms (goal.at.invariant_of-self c).After-number_of_shared;
   moves = moves_first (goal.at.invariant_of-self c).After-number_of_shared;
+  rests = c.self.invariant.rests;
 }
 
 pub invariant_of-self-in_err-numbers : goal.invariant_of-self-in_err-numbers
@@ -58,6 +65,7 @@ invariant_of-self-in_err-numbers c = record {
   code = codes (goal.at.invariant_of-self-in_err-numbers c).After-number_of_shared;
   forms = forms (goal.at.invariant_of-self-in_err-numbers c).After-number_of_shared;
   moves = moves_then (goal.at.invariant_of-self-in_err-numbers c).After-first_harts;
+  rests = rests_then (goal.at.invariant_of-self-in_err-numbers c).After-first_harts;
 }
 
 pub invariant_of-self-in_err-state : goal.invariant_of-self-in_err-state
@@ -69,6 +77,7 @@ invariant_of-self-in_err-state c = record {
   code = codes (goal.at.invariant_of-self-in_err-state c).After-number_of_shared;
   forms = forms (goal.at.invariant_of-self-in_err-state c).After-number_of_shared;
   moves = moves_then (goal.at.invariant_of-self-in_err-state c).After-first_harts;
+  rests = rests_then (goal.at.invariant_of-self-in_err-state c).After-first_harts;
 }
 
 pub invariant_of-self-2 : goal.invariant_of-self-2
@@ -80,6 +89,7 @@ invariant_of-self-2 c = record {
   code = codes (goal.at.invariant_of-self-2 c).After-number_of_shared;
   forms = forms (goal.at.invariant_of-self-2 c).After-number_of_shared;
   moves = moves_then (goal.at.invariant_of-self-2 c).After-first_harts;
+  rests = rests_then (goal.at.invariant_of-self-2 c).After-first_harts;
 }
 
 pub returns-clause-begun : goal.returns-clause-begun
