@@ -5,9 +5,9 @@
 //! Read in this order: `jumping` (jumps by registers, held against a table), `local` (a step that other harts
 //! don't see), `settling` (how a hart follows its own), `resting` (which registers it keeps), `program` (what is
 //! searched), `executed` and `tables` (what a step does, and the numbers of the parts of states), `state`, `numbering`
-//! (the numbers of a state's harts), `way` (what local steps a step was), `machine`, `moves` (what a step comes to, noted),
-//! `losing` (harts that lose their reservations by it), `stepping`, `begun` and `beginning` (the first state), `searching`
-//! (the machine as one that is searched).
+//! (the numbers of a state's harts), `way` (what local steps a step was), `machine`, `moves` (what a step comes to,
+//! noted), `losing` (harts that lose their reservations by it), `stepping`, `begun` and `beginning` (the first state),
+//! `searching` (the machine as one that is searched).
 #![tactic(auto)]
 
 mod beginning;

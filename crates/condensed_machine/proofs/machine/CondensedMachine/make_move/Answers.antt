@@ -56,11 +56,14 @@ execute-executed-requires-clause-code c =
 
 -- ---- What stays
 
+abbrev free : After-number_hart → Bool
+free c = not c.has_reservation_behind-is_free.result
+
 zeros : (c : After-number_hart) → HaveZero c.number_hart.new.harts.keys
 zeros c =
     let p = c.self.inside.program in
     c.number_hart.ensures.zero c.self.invariant.zero
-    (zero_rests p (not c.has_reservation_behind-is_free.result) c.execute-executed.new.state c.come_to_rest-steps.new.state c.come_to_rest-steps.result
+    (zero_rests p (free c) c.execute-executed.new.state c.come_to_rest-steps.new.state c.come_to_rest-steps.result
     c.come_to_rest-steps.ensures
     (zero_behind p c.args.from.hart c.numbered_hart.result.now c.execute-executed.new.state
     c.numbered_shared-before.result.now c.execute-executed.ensures.behind (zero_before c)))
@@ -70,7 +73,7 @@ rest : (c : After-number_hart) → AreAtRest c.self.inside.program.live c.self.i
 rest c =
     let p = c.self.inside.program in
     c.number_hart.ensures.rest p.live p.watched c.self.invariant.rest
-    (at_rest p (not c.has_reservation_behind-is_free.result) c.execute-executed.new.state c.come_to_rest-steps.new.state c.come_to_rest-steps.result
+    (at_rest p (free c) c.execute-executed.new.state c.come_to_rest-steps.new.state c.come_to_rest-steps.result
     c.come_to_rest-steps.ensures)
 
 registers : (c : After-number_hart) → HaveRegisters c.number_hart.new.harts.keys
@@ -100,7 +103,8 @@ moves_then c =
     c.self.inside.shared_states.keys c.number_shared.new.shared.keys c.number_hart.ensures.kept
     c.number_shared.ensures.kept c.self.inside.moves.entries c.self.invariant.moves
 
-rests : (c : After-number_hart) → AreRests c.self.inside.program c.number_hart.new.harts.keys c.self.inside.rests.entries
+rests : (c : After-number_hart) → AreRests c.self.inside.program c.number_hart.new.harts.keys
+    c.self.inside.rests.entries
 rests c =
     rests_stay c.self.inside.program c.self.inside.hart_states.keys c.number_hart.new.harts.keys
     c.number_hart.ensures.kept c.self.inside.rests.entries c.self.invariant.rests
