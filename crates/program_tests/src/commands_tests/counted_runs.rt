@@ -53,6 +53,6 @@ fn are_calls<R: Threads + Wait + Sync + Abort>(
 
 #[test]
 fn each_run_is_a_call_and_there_is_one_at_least(rt: HostRuntime) {
-    are_calls(&rt, 3, (3, "\n3     *>x=1;\n"), rt.alloc());
-    are_calls(&rt, 0, (1, "\n1     *>x=1;\n"), rt.alloc());
+    are_calls(&rt, 3, (3, "\n3     *>[x]=1;\n"), rt.alloc());
+    are_calls(&rt, 0, (1, "\n1     *>[x]=1;\n"), rt.alloc());
 }
