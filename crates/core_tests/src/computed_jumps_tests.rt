@@ -358,7 +358,7 @@ fn a_hart_writes_a_jump_of_another(rt: HostRuntime) {
     }
 }
 
-// In a state each hart has yet to store or is over.
+// Nobody has reserved anything, so each SC fails without being seen, and both harts are over in the one state.
 #[test]
 fn a_function_that_stores_conditionally_alone(rt: HostRuntime) {
     match of_two_harts(&STORES_CONDITIONALLY, 10, rt.alloc()) {
@@ -366,7 +366,7 @@ fn a_function_that_stores_conditionally_alone(rt: HostRuntime) {
             let statuses = [Status::Stopped(3), Status::Stopped(3)];
             holds(&rt, "one", found.count() == 1);
             holds(&rt, "ends", is_of_two(&found, 0, statuses, [1, 1], 0));
-            holds(&rt, "states", found.states() == 4);
+            holds(&rt, "states", found.states() == 1);
         }
         None => holds(&rt, "found", false),
     }
