@@ -286,17 +286,16 @@ beside_refusal harts told config own file program second reason configured passe
 pub alone_comes_to : (harts : Option ℕ) (config : List ℕ) (image second : Read) (old new : Option (List ℕ))
     (status : ℕ) → ExplainComesTo harts (Ok config) image old new status
     → ExplainLineComesTo harts None (Ok config) image second old new status
-alone_comes_to harts config (Ok file) second old new status told =
-    let (settings, configured, text, both, appends) = told.printed in (
-      settings,
-      configured,
-      (
-        both.accepted.passes,
-        both.accepted.image,
-        both.accepted.is_image,
-        (accepted_of config settings configured, (new, told, refl)),
-      ),
-    )
+alone_comes_to harts config (Ok file) second old new status told = (
+  told.printed.0,
+  told.printed.1,
+  (
+    told.printed.2.1.accepted.passes,
+    told.printed.2.1.accepted.image,
+    told.printed.2.1.accepted.is_image,
+    (accepted_of config told.printed.0 told.printed.1, (new, told, refl)),
+  ),
+)
 alone_comes_to harts config (Err why) second old new status told = absurd told.printed.2
 
 pub both_come_to : (harts : Option ℕ) (told : Beside) (config : List ℕ) (image second : Read)

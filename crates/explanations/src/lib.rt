@@ -1,10 +1,9 @@
 //! Why a configuration or an image is refused, and what is in one that is accepted, in lines for a
 //! person.
 //!
-//! Read in this order: `lines`, `place` (where something stands in a text), `near` (which name was
-//! meant), `config` and `config_fault` (what is said of a configuration); `headers` (the segments that
-//! a file names), `segments`, `names` (of its program), `image`, `file_fault` and `segment_fault` (what
-//! is said of an image).
+//! Read in this order: `lines`, `place` (where something stands in a text), `near` (which name was meant),
+//! `settings_text`, `config_fault` and `config` (what is said of a configuration); `headers` (the segments that a file
+//! names), `segments`, `names` (of its program), `image`, `file_fault` and `segment_fault` (what is said of an image).
 #![tactic(auto)]
 
 mod config;
