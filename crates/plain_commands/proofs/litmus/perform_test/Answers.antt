@@ -1,7 +1,7 @@
 -- What was found is all of it, or there is more than was to be looked at: nothing is asked for, so that the search
 -- doesn't end with a first outcome.
 use Rattle.event_text.specs.Sinking.{HasPut}
-use Rattle.std.proofs.Common.{sym, ◌∙◌}
+use Rattle.std.proofs.Common.{refl, sym, ◌∙◌, inl}
 use Rattle.std.proofs.lemmas.Result.{IfErr-weaker}
 use Rattle.plain_commands.proofs.OfLitmus.{all_told, more_told, beyond_of, not_both, of_harts, state_told, unwritten}
 use Rattle.plain_commands.proofs.OfLitmus.{image_kept, want_refused, written_refused}
@@ -66,5 +66,18 @@ returns-in-Ok-write_incomplete g c =
       unwanted = λ none. put.unwanted (unwritten c.args.command.now none).0;
       unbroken = put.unbroken;
       finished = put.finished;
+      unreported = λ failed. not_both _ _ put.unbroken failed;
+    }
+
+pub returns-in-Ok-find_shown : goal.returns-in-Ok-find_shown
+returns-in-Ok-find_shown g c =
+    let put = c.in-Ok-put_image.ensures in
+    record {
+      refused = inl tt;
+      unprinted = inl refl;
+      ended = tt;
+      unwanted = λ none. put.unwanted (unwritten c.args.command.now none).0;
+      unbroken = tt;
+      finished = tt;
       unreported = λ failed. not_both _ _ put.unbroken failed;
     }
