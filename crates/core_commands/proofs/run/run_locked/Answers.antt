@@ -8,8 +8,8 @@ returns-in-Ok-clause-accepted g c =
     let program = c.args.image.now in
     let copy = c.copied-config in
     let same = same_setup program settings.config copy.result copy.ensures.sizes copy.ensures.roles in
-    are_accepted settings program c.in-Ok.unlocked c.run.result c.in-Ok.is
-    (for_sizes settings program copy.result c.run.result same c.run.ensures.config)
+    are_accepted settings program c.in-Ok.unlocked c.run_counted.result c.in-Ok.is
+    (for_sizes settings program copy.result c.run_counted.result same c.run_counted.ensures.config)
 
 pub returns-in-Ok-clause-manned : goal.returns-in-Ok-clause-manned
 returns-in-Ok-clause-manned g c =
@@ -17,9 +17,9 @@ returns-in-Ok-clause-manned g c =
     let program = c.args.image.now in
     let copy = c.copied-config in
     let same = same_setup program settings.config copy.result copy.ensures.sizes copy.ensures.roles in
-    are_manned settings program c.in-Ok.unlocked c.run.result c.in-Ok.is
-    (for_sizes settings program copy.result c.run.result same c.run.ensures.config)
-    (for_roles settings program copy.result c.run.result same copy.ensures.roles c.run.ensures.roles)
+    are_manned settings program c.in-Ok.unlocked c.run_counted.result c.in-Ok.is
+    (for_sizes settings program copy.result c.run_counted.result same c.run_counted.ensures.config)
+    (for_roles settings program copy.result c.run_counted.result same copy.ensures.roles c.run_counted.ensures.roles)
 
 pub returns-in-Err-clause-refused : goal.returns-in-Err-clause-refused
 returns-in-Err-clause-refused g c =
@@ -28,9 +28,9 @@ returns-in-Err-clause-refused g c =
     let copy = c.copied-config in
     let same = same_setup program settings.config copy.result copy.ensures.sizes copy.ensures.roles in
     rw c.refused_run.ensures
-    (ran_refusal settings program c.run.result c.in-Err.why c.in-Err.is
-    (for_sizes settings program copy.result c.run.result same c.run.ensures.config)
-    (for_roles settings program copy.result c.run.result same copy.ensures.roles c.run.ensures.roles))
+    (ran_refusal settings program c.run_counted.result c.in-Err.why c.in-Err.is
+    (for_sizes settings program copy.result c.run_counted.result same c.run_counted.ensures.config)
+    (for_roles settings program copy.result c.run_counted.result same copy.ensures.roles c.run_counted.ensures.roles))
 
 pub returns-in-Ok-clause-ran : goal.returns-in-Ok-clause-ran
 returns-in-Ok-clause-ran g c =
