@@ -1,9 +1,2 @@
-mod Keeping
-mod Moving
-mod Fresh
-mod Growing
-mod Cutting
-mod Squashed
 mod Pictured
 mod Lines
-mod ByFetch

@@ -15,12 +15,13 @@ use Rattle.std.proofs.Common.{mul-le-mul_right}
 use Rattle.text_fields.specs.Each.{each_from}
 use Rattle.text_fields.proofs.Appending.{appends_more, each_step}
 use Rattle.address_labels.specs.Labels.{Marks}
-use Rattle.charts.specs.{declared.row.Row.Row, declared.view.View.View, declared.view.Band.Band}
+use Rattle.chart_rows.specs.{declared.row.Row.Row, declared.view.View.View, declared.band.Band.Band}
 use Rattle.charts.specs.declared.label.Widths.{Widths}
-use Rattle.charts.specs.Views.{shows, is_before, last_place, draws_hart}
-use Rattle.charts.specs.Order.{AreByFetch, AreOver, AreOverBefore}
-use Rattle.charts.specs.Cells.{letter_at}
-use Rattle.charts.specs.Text.{widened, widened_over, band_of, bands_of, row_text, within, places, ruler_from}
+use Rattle.chart_rows.specs.Views.{shows, is_before, last_place, draws_hart}
+use Rattle.chart_rows.specs.Order.{AreByFetch, AreOver, AreOverBefore}
+use Rattle.chart_rows.specs.Cells.{letter_at}
+use Rattle.charts.specs.Text.{widened, widened_over, row_text, places, ruler_from}
+use Rattle.chart_rows.specs.Bands.{band_of, bands_of, within}
 use Rattle.charts.specs.Text.{number_over, column_behind, band_text, bands_text, gap_before, chart_by, chart_text}
 use Rattle.charts.specs.Text.{columns_in, line_text, widths_of}
 
@@ -111,25 +112,6 @@ module _ (view : View) (marks : Marks) (least : Widths) (rows : List Row) (i : �
       ∙ ap (widened_over marks least) (sym more_shown)
 
 -- ---- Bands
-
--- The column at which a band begins stands in the view.
-pub begins_inside : (view : View) (columns number : ℕ) → number < bands_of view columns
-    → view.from + number * columns ≤ view.to
-begins_inside view columns number one_of =
-    elim (cases_Bool (nat_lt view.to view.from)) [
-      | inl turned ↦
-          let none : number < 0 = subst (λ (b : Bool). number < (if b then 0 else (view.to - view.from) / columns + 1))
-          turned one_of in
-          absurd (omega (arith, none))
-      | inr rises ↦
-          let few : number < (view.to - view.from) / columns + 1 =
-          subst (λ (b : Bool). number < (if b then 0 else (view.to - view.from) / columns + 1)) rises one_of in
-          let within : (view.to - view.from) / columns * columns ≤ view.to - view.from =
-          div-mul-le_self (view.to - view.from) columns in
-          let smaller : number * columns ≤ (view.to - view.from) / columns * columns =
-          mul-le-mul_right columns (omega (arith, few)) in
-          grind (arith, nat_tests, smaller, within, rises)
-    ]
 
 -- ---- Rows that nothing stands of
 

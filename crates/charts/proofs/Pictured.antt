@@ -5,9 +5,10 @@ use Rattle.std.proofs.Common.{slice_get, Option, Some, None, option_map, refl, s
 use Rattle.std.proofs.lemmas.Bool.{cases_Bool}
 use Rattle.std.proofs.lemmas.Option.{slice_get_past}
 use Rattle.std.proofs.lemmas.List.{take_all}
-use Rattle.charts.specs.Views.{shows, most_pictured, last_pictured}
-use Rattle.charts.specs.declared.row.Row.{Row}
-use Rattle.charts.specs.declared.view.View.{View}
+use Rattle.chart_rows.specs.Views.{shows}
+use Rattle.charts.specs.Pictures.{most_pictured, last_pictured}
+use Rattle.chart_rows.specs.declared.row.Row.{Row}
+use Rattle.chart_rows.specs.declared.view.View.{View}
 
 next_filtered : {A : Type 0} (p : A → Bool) (xs : List A) (i : ℕ) (d : A) → i < length xs → p (get_or xs i d) ≡ true
     → slice_get (filter p xs) (length (filter p (take i xs))) ≡ Some (get_or xs i d)

@@ -1,6 +1,2 @@
-pub mod Rows
-pub mod Moves
-pub mod Cells
-pub mod Views
 pub mod Text
-pub mod Order
+pub mod Pictures

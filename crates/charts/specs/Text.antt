@@ -10,9 +10,11 @@ use Rattle.rv_text.specs.Spelling.{spelling_of}
 use Rattle.address_labels.specs.{Labels.Marks, Texts.labels_text, Texts.label_width}
 use Rattle.address_labels.specs.declared.writing.Form.{Form}
 use Rattle.address_labels.specs.declared.writing.Form.TheVariants.{Word}
-use Rattle.charts.specs.{declared.row.Row.Row, declared.row.Squash.Squash, declared.view.View.View}
-use Rattle.charts.specs.{declared.view.Band.Band, declared.label.Widths.Widths}
-use Rattle.charts.specs.{Cells.letter_at, Views.shows, Views.last_place}
+use Rattle.chart_rows.specs.Bands.{band_of, bands_of, has_place, last_column, within}
+use Rattle.chart_rows.specs.{declared.row.Row.Row, declared.row.Squash.Squash, declared.view.View.View}
+use Rattle.chart_rows.specs.{declared.band.Band.Band}
+use Rattle.charts.specs.{declared.label.Widths.Widths}
+use Rattle.chart_rows.specs.{Cells.letter_at, Views.shows, Views.last_place}
 
 -- ---- The name of a row
 
@@ -84,18 +86,6 @@ remark_width widths = max (widths.number + 4) 9
 abbrev pub columns_in : ℕ → Widths → ℕ
 columns_in width widths = max (width - name_width widths - remark_width widths) 10
 
-abbrev pub bands_of : View → ℕ → ℕ
-bands_of view columns = if nat_lt view.to view.from then 0 else (view.to - view.from) / columns + 1
-
-abbrev pub band_of : View → ℕ → ℕ → Band
-band_of view columns number = record {
-  from = view.from + number * columns;
-  to = min (view.from + number * columns + (columns - 1)) view.to;
-}
-
-abbrev pub within : View → Band → View
-within view band = record { from = band.from; to = band.to; hart = view.hart }
-
 -- The places from one to another.
 abbrev pub places : ℕ → ℕ → List ℕ
 places from to = range_with_len from (suc to - from)
@@ -121,18 +111,8 @@ ruler_text band widths =
 
 -- ---- The rows of a band
 
--- Its letters end with the last that stands in the row.
-abbrev pub last_column : Band → Option ℕ → ℕ
-last_column band None = band.to
-last_column band (Some last) = min last band.to
-
 abbrev pub cells_text : Row → Band → List ℕ
 cells_text row band = map (letter_at row) (places band.from (last_column band (last_place row)))
-
--- The place stands in the band.
-abbrev pub has_place : Band → Option ℕ → Bool
-has_place band None = false
-has_place band (Some place) = nat_le band.from place && nat_le place band.to
 
 abbrev pub by_text : Band → Option Squash → List ℕ
 by_text band None = []

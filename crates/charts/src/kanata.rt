@@ -3,9 +3,8 @@
 mod lines;
 mod waits;
 
-use crate::row::Row;
-use crate::view::View;
 use address_labels::Labels;
+use chart_rows::{Row, View};
 use events::Event;
 use lines::Log;
 use std::alloc::{AllocError, Global};

@@ -19,10 +19,9 @@ ghost use Rattle.charts.specs.Text.{
   widths_of,
 };
 
-use crate::row::Row;
-use crate::view::View;
 use address_labels::{Form, Labels, label_width, write_labels};
 use arrayvec::ArrayString;
+use chart_rows::{Row, View};
 use rv_decode::{Op, decode_op};
 use std::io;
 use std::io::Write;

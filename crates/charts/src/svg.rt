@@ -1,15 +1,14 @@
 //! The chart as a picture: an SVG file, for light and for dark.
 
 ghost use Rattle.std.specs.Prelude.{◌≡◌};
-ghost use Rattle.charts.specs.Views.{last_pictured};
+ghost use Rattle.charts.specs.Pictures.{last_pictured};
 
 mod page;
 mod strip;
 
 use crate::label::{Named, Widths};
-use crate::row::Row;
-use crate::view::{Band, View, first_left};
 use address_labels::{Form, Labels};
+use chart_rows::{Band, Row, View, first_left};
 use events::Event;
 use page::Page;
 use std::io;

@@ -4,9 +4,9 @@ ghost use Rattle.std.specs.Prelude.{◌≡◌, ◌≤◌, ◌<◌, ◌^◌, ◌�
 ghost use Rattle.std.specs.Io.KnownBytes.{Appends};
 ghost use Rattle.address_labels.specs.Labels.{marks_of};
 ghost use Rattle.text_fields.specs.Each.{each_from};
-ghost use Rattle.charts.specs.Cells.{letter_at};
-ghost use Rattle.charts.specs.Views.{shows};
-ghost use Rattle.charts.specs.Order.{AreByFetch, AreOver};
+ghost use Rattle.chart_rows.specs.Cells.{letter_at};
+ghost use Rattle.chart_rows.specs.Views.{shows};
+ghost use Rattle.chart_rows.specs.Order.{AreByFetch, AreOver};
 ghost use Rattle.charts.specs.Text.{
   band_text,
   by_text,
@@ -26,10 +26,9 @@ ghost use Rattle.charts.specs.Text.{
 };
 
 use crate::label::{Named, Widths, write_spaces};
-use crate::row::Row;
-use crate::view::{Band, View, first_left};
 use address_labels::{Form, Labels};
 use arrayvec::ArrayString;
+use chart_rows::{Band, Row, View, first_left};
 use std::io;
 use std::io::Write;
 use text_fields::push_decimal;

@@ -3,7 +3,7 @@ use Rattle.std.specs.Prelude.{◌≡◌, ◌⊎◌, ℕ, Bool, List, [], reverse
 use Rattle.std.specs.Prelude.{IfOk, OnOk}
 use Rattle.std.specs.Io.KnownBytes.{Appends}
 use Rattle.std.proofs.lemmas.Bool.{cases_Bool}
-use Rattle.charts.specs.{declared.row.Row.Row, declared.view.View.View}
+use Rattle.chart_rows.specs.{declared.row.Row.Row, declared.view.View.View}
 use Rattle.sim_inputs.specs.Files.{written_chart}
 use Rattle.std.proofs.Common.{subst, ap, ◌∙◌, inl, inr, Option}
 use Rattle.elf_image.specs.Image.{ProgramImage}
@@ -13,7 +13,7 @@ use Rattle.core_state.specs.Setup.{setup_of}
 use Rattle.event_text.specs.declared.head.TraceHead.{TraceHead}
 use Rattle.core_state.specs.View.{CoreView}
 use Rattle.smt_core.specs.Shown.{Shown}
-use Rattle.charts.specs.Rows.{AreRows, AreHistory as AreSomeHistory}
+use Rattle.chart_rows.specs.Rows.{AreRows, AreHistory as AreSomeHistory}
 use Rattle.sim_inputs.specs.declared.settings.Settings.{Settings}
 use Rattle.sim_inputs.specs.declared.line.ChartCommand.{ChartCommand}
 use Rattle.symbols.specs.Tables.{Table, table_of}

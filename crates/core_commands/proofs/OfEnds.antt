@@ -4,7 +4,7 @@ use Rattle.std.proofs.Common.{Option, Some, None, refl, sym, ap, subst, ◌∙�
 use Rattle.std.specs.Option.{option_map_or}
 use Rattle.std.proofs.{lemmas.Bool.cases_Bool, lemmas.Bool.Decides.nat_tests}
 use Rattle.events.specs.declared.event.Event.{Event}
-use Rattle.charts.specs.declared.row.Row.{Row}
+use Rattle.chart_rows.specs.declared.row.Row.{Row}
 use Rattle.symbols.specs.declared.symbol.Symbol.{Symbol}
 use Rattle.core_commands.specs.ChartEnds.{is_event_of, is_event_in}
 

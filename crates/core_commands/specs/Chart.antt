@@ -11,8 +11,9 @@ use Rattle.smt_model.specs.Setup.{Setup}
 use Rattle.events.specs.{declared.event.Event.Event}
 use Rattle.address_labels.specs.Labels.{marks_where}
 use Rattle.sim_inputs.specs.Files.{written_chart}
-use Rattle.charts.specs.{Rows.AreRows, Text.chart_text, Views.view_of, Views.last_pictured}
-use Rattle.charts.specs.{declared.row.Row.Row, declared.view.View.View}
+use Rattle.chart_rows.specs.{Rows.AreRows, Views.view_of}
+use Rattle.charts.specs.{Text.chart_text, Pictures.last_pictured}
+use Rattle.chart_rows.specs.{declared.row.Row.Row, declared.view.View.View}
 use Rattle.symbols.specs.Tables.{Table, table_of}
 use Rattle.core_commands.specs.declared.chart_ends.Drawn.{Drawn}
 use Rattle.core_commands.specs.ChartEnds.{AreEnds, IsEndRefusal}

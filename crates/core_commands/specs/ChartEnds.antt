@@ -4,7 +4,7 @@ use Rattle.std.specs.Prelude.{Option, Some, None, option_map}
 use Rattle.std.specs.Option.{option_map_or}
 use Rattle.events.specs.{Event.seq_of, declared.event.Event.Event}
 use Rattle.text_fields.specs.Splitting.{Lacks}
-use Rattle.charts.specs.{declared.row.Row.Row, Views.draws_hart}
+use Rattle.chart_rows.specs.{declared.row.Row.Row, Views.draws_hart}
 use Rattle.symbols.specs.{declared.symbol.Symbol.Symbol, declared.meanings.Name.Name, declared.meanings.Meaning.Meaning}
 use Rattle.symbols.specs.declared.meanings.Meaning.TheVariants.{One, Several, Nothing}
 use Rattle.symbols.specs.{Naming.covers, Meanings.IsMeaning, Tables.Table, Tables.table_of}

@@ -3,7 +3,7 @@
 ghost use Rattle.std.specs.Prelude.{◌≡◌, ◌≤◌, ℕ, IfOk, IfErr, IfSome, IfNone, false, find, length, option_copied};
 ghost use Rattle.numbers.specs.Sizes.{most_events};
 ghost use Rattle.command_parts.specs.declared.refused.ChartOption.TheVariants.{From, To};
-ghost use Rattle.charts.specs.Views.{draws_hart};
+ghost use Rattle.chart_rows.specs.Views.{draws_hart};
 ghost use Rattle.symbols.specs.Tables.{table_of};
 ghost use Rattle.text_fields.specs.Splitting.{Lacks};
 ghost use Rattle.core_commands.specs.ChartEnds.{
@@ -22,7 +22,7 @@ ghost use Rattle.core_commands.specs.ChartEnds.{
   is_event_in,
 };
 
-use charts::Row;
+use chart_rows::Row;
 use command_parts::{ChartOption, Refused};
 use events::Event;
 use sim_inputs::{ChartCommand, ChartEnd};

@@ -9,8 +9,8 @@ use Rattle.events.specs.declared.event.Event.TheVariants.{Fetch, Decode, Rename,
 use Rattle.events.specs.declared.event.Event.TheVariants.{Drop, Retire, Refetch}
 use Rattle.events.specs.declared.kind.EventKind.TheVariants as kinds
 use Rattle.smt_model.specs.{Basics.holds_of, Basics.or_else, Nexts.redirect_pc, Fates.squashes, Fates.completion}
-use Rattle.charts.specs.Rows.{place, squash, squash_of}
-use Rattle.charts.specs.declared.row.Squash.{Squash as AnySquash}
+use Rattle.chart_rows.specs.Rows.{place, squash, squash_of}
+use Rattle.chart_rows.specs.declared.row.Squash.{Squash as AnySquash}
 use Rattle.history_counts.specs.Numbers.{squasher}
 use Rattle.history_counts.specs.OfRows.{goes_elsewhere}
 

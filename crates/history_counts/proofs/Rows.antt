@@ -6,7 +6,7 @@ use Rattle.std.proofs.lemmas.List.{reverse-reverse}
 use Rattle.events.specs.{declared.event.Event.Event}
 use Rattle.smt_model.specs.{Basics.how_many, Basics.holds_of, Nexts.redirect_pc, Fates.Fetched, Fates.fetching}
 use Rattle.smt_model.specs.Fates.{mispredicts, completion}
-use Rattle.charts.specs.{declared.row.Row.Row, Rows.AreRows, Rows.IsRow}
+use Rattle.chart_rows.specs.{declared.row.Row.Row, Rows.AreRows, Rows.IsRow}
 use Rattle.history_counts.specs.declared.instructions.Reason.{Reason}
 use Rattle.history_counts.specs.Numbers.{mispredictions, replays, squashed_for, squashes_for, is_mispredicted}
 use Rattle.history_counts.specs.Numbers.{is_squashed_for}

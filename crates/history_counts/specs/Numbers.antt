@@ -12,7 +12,7 @@ use Rattle.rv_instr.specs.{Registers.op_unit, Registers.same_unit, Decode.op_of_
 use Rattle.rv_instr.specs.declared.op.UnitKind.{UnitKind}
 use Rattle.smt_model.specs.{Basics.how_many, Basics.holds_of, Basics.below, Basics.or_else}
 use Rattle.smt_model.specs.Fates.{fetches, completion, mispredicts, squashes}
-use Rattle.charts.specs.Rows.{looked_twice}
+use Rattle.chart_rows.specs.Rows.{looked_twice}
 use Rattle.history_counts.specs.declared.instructions.Reason.{Reason}
 use Rattle.history_counts.specs.declared.instructions.Reason.TheVariants.{Mispredicted, Replayed}
 use Rattle.history_counts.specs.declared.instructions.Reason.TheVariants.{Refetched, HartEnded}

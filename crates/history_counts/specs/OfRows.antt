@@ -5,7 +5,7 @@ use Rattle.events.specs.{declared.event.Event.Event}
 use Rattle.events.specs.declared.event.Event.TheVariants.{Fetch, Decode, Rename, Issue, Complete}
 use Rattle.events.specs.declared.event.Event.TheVariants.{Drop, Retire, Refetch}
 use Rattle.smt_model.specs.{Basics.holds_of, Nexts.redirect_pc}
-use Rattle.charts.specs.{declared.row.Row.Row}
+use Rattle.chart_rows.specs.{declared.row.Row.Row}
 use Rattle.history_counts.specs.declared.instructions.Reason.{Reason}
 use Rattle.history_counts.specs.Numbers.{squashes_for}
 

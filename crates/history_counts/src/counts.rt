@@ -2,12 +2,12 @@
 
 ghost use Rattle.std.specs.Prelude.{◌≡◌, ◌≤◌, length, reverse, IfOk};
 ghost use Rattle.numbers.specs.Sizes.{most_events};
-ghost use Rattle.charts.specs.Rows.{AreRows, AreHistory};
+ghost use Rattle.chart_rows.specs.Rows.{AreRows, AreHistory};
 ghost use Rattle.history_counts.specs.Numbers.{counts_of};
 
 use crate::instructions::{Reason, count_mispredicted, count_replayed, count_squashed};
 use crate::kinds::count_events;
-use charts::{Row, rows_of};
+use chart_rows::{Row, rows_of};
 use events::{Event, EventKind, History};
 use std::alloc::{AllocError, Global};
 

@@ -3,13 +3,13 @@
 ghost use Rattle.std.specs.Prelude.{◌≡◌, reverse, IfOk};
 ghost use Rattle.events.specs.declared.event.Event.{Event as AnyEvent};
 ghost use Rattle.smt_model.specs.Basics.{how_many};
-ghost use Rattle.charts.specs.Rows.{AreRows};
+ghost use Rattle.chart_rows.specs.Rows.{AreRows};
 ghost use Rattle.history_counts.specs.Numbers.{mispredictions, replays, squashed_for, squashes_for};
 ghost use Rattle.history_counts.specs.Numbers.{is_next_for, is_misprediction, is_refetch};
 ghost use Rattle.history_counts.specs.OfRows.{is_replayed_row, is_mispredicted_row};
 ghost use Rattle.history_counts.specs.OfRows.{is_squashed_row, goes_elsewhere};
 
-use charts::Row;
+use chart_rows::Row;
 use events::{Event, Next};
 
 /// Why instructions were squashed.

@@ -16,8 +16,9 @@ use Rattle.text_fields.specs.Printing.{Prints}
 use Rattle.scripts.specs.{declared.actions.ScriptWord.ScriptWord, Lines.words_in}
 use Rattle.scripts.specs.Session.{HaveCounted, AreGuessed, HasGuessed, unasked}
 use Rattle.address_labels.specs.Labels.{Marks, no_marks}
-use Rattle.charts.specs.{declared.row.Row.Row, declared.view.View.View, Rows.AreHistory, Rows.AreRows}
-use Rattle.charts.specs.{Order.AreByFetch, Text.chart_text, Views.view_of}
+use Rattle.chart_rows.specs.{declared.row.Row.Row, declared.view.View.View, Rows.AreHistory, Rows.AreRows}
+use Rattle.chart_rows.specs.{Order.AreByFetch, Views.view_of}
+use Rattle.charts.specs.{Text.chart_text}
 use Rattle.prompts.specs.{Kept.Kept, Kept.IsAskedAll, Printed.IsChartOf}
 
 -- What was printed into a text of nothing is all of it.

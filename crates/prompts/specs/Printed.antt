@@ -3,8 +3,9 @@ use Rattle.std.specs.Prelude.{◌≡◌, ℕ, ◌-◌, Bool, true, false, List, 
 use Rattle.std.specs.Fmt.{decimal}
 use Rattle.core_state.specs.View.{CoreView}
 use Rattle.address_labels.specs.Labels.{no_marks}
-use Rattle.charts.specs.{Rows.AreRows, Text.chart_text, Views.view_of}
-use Rattle.charts.specs.{declared.row.Row.Row, declared.view.View.View}
+use Rattle.chart_rows.specs.{Rows.AreRows, Views.view_of}
+use Rattle.charts.specs.{Text.chart_text}
+use Rattle.chart_rows.specs.{declared.row.Row.Row, declared.view.View.View}
 use Rattle.prompts.specs.declared.session.Complaint.{Complaint}
 use Rattle.prompts.specs.declared.session.Complaint.TheVariants as complaint
 

@@ -4,7 +4,7 @@ use Rattle.std.proofs.Common.{◌∙◌, sym, ap, subst}
 use Rattle.events.specs.declared.event.Event.{Event}
 use Rattle.smt_model.specs.Rules.{is_legal}
 use Rattle.core_state.specs.View.{CoreView}
-use Rattle.charts.specs.Rows.{AreHistory}
+use Rattle.chart_rows.specs.Rows.{AreHistory}
 
 pub history_in : (core : CoreView) (items events : List Event) → reverse items ≡ core.past
     → is_legal core.setup core.past → events ≡ items → AreHistory events

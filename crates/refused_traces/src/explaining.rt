@@ -13,7 +13,7 @@ use crate::results::{write_effect, write_fresh, write_outcome, write_stale};
 use crate::rules::event_rule;
 use crate::standing::write_standing;
 use crate::wanted::make_wanted;
-use charts::{Row, rows_of};
+use chart_rows::{Row, rows_of};
 use events::{Event, History};
 use shared_memory::Memory;
 use smt_core::Core;

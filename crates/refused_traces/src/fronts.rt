@@ -2,7 +2,7 @@
 
 use crate::past::{Past, op_of};
 use crate::places::{Holder, oldest_in, write_holder};
-use charts::Row;
+use chart_rows::Row;
 use events::Event;
 use numbers::sizes::{LATCH_ROOM, MOST_ACCESSES, MOST_IN_FLIGHT, RENAMED_REGISTERS};
 use numbers::{Phys, Seq};

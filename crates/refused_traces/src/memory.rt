@@ -1,7 +1,7 @@
 //! Who has written what memory has, and who has reserved a word of it.
 
 use crate::past::{Past, is_live, op_of};
-use charts::Row;
+use chart_rows::Row;
 use events::{Event, Next, Outcome, Written};
 use numbers::Seq;
 use rv_execute::access_size;

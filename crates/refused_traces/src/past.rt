@@ -1,6 +1,6 @@
 //! The events before the one that is refused, and the rows of their instructions.
 
-use charts::Row;
+use chart_rows::Row;
 use events::{Event, Role};
 use numbers::Seq;
 use rv_decode::decode_op;

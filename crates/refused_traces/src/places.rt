@@ -1,7 +1,7 @@
 //! What is in which place of the pipeline.
 
 use crate::past::{Past, is_live, op_of};
-use charts::Row;
+use chart_rows::Row;
 use numbers::Seq;
 use rv_instr::Op;
 use std::io;

@@ -4,7 +4,7 @@ use crate::fetches::write_optional;
 use crate::memory::{accessed_by, forwarding_store, write_doer, write_reservation, write_writer};
 use crate::past::Past;
 use crate::sources::write_operands;
-use charts::Row;
+use chart_rows::Row;
 use events::{Effect, Next, Outcome, Written};
 use numbers::Seq;
 use rv_execute::access_size;

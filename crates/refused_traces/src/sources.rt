@@ -2,7 +2,7 @@
 
 use crate::past::{Past, op_of};
 use crate::standing::progress_of;
-use charts::Row;
+use chart_rows::Row;
 use events::Event;
 use numbers::{Reg, Seq};
 use std::io;

@@ -1,7 +1,7 @@
 //! Where an instruction stands.
 
 use crate::past::Past;
-use charts::Row;
+use chart_rows::Row;
 use events::Event;
 use numbers::Seq;
 use std::io;

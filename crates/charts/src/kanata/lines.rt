@@ -1,8 +1,8 @@
 //! The lines of the log: each is a letter and its fields, with tabs between.
 
 use crate::label::instruction_of;
-use crate::row::Row;
 use address_labels::{Form, Labels, write_labels};
+use chart_rows::Row;
 use events::{Event, EventKind};
 use std::io;
 use std::io::Write;

@@ -1,7 +1,7 @@
 //! For whose results an instruction has waited.
 
 use super::id_of;
-use crate::row::Row;
+use chart_rows::Row;
 use rv_decode::{Op, decode_op};
 use std::io;
 use std::io::Write;

@@ -4,8 +4,7 @@ ghost use Rattle.std.specs.Prelude.{◌<◌};
 
 use super::count_shown;
 use crate::label::Widths;
-use crate::row::Row;
-use crate::view::{Band, View, first_left};
+use chart_rows::{Band, Row, View, first_left};
 use numbers::sizes::MOST_HARTS;
 use std::io;
 use std::io::Write;

@@ -1,11 +1,9 @@
 //! The row of an instruction in a picture.
 
 use super::page::Page;
-use crate::cell::Cell;
 use crate::label::{Named, Widths, instruction_of};
-use crate::row::Row;
-use crate::view::Band;
 use address_labels::write_labels;
+use chart_rows::{Band, Cell, Row};
 use events::Event;
 use std::io;
 use std::io::Write;

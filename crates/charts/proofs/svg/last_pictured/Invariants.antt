@@ -1,6 +1,7 @@
 use Rattle.std.proofs.Common.{◌≡◌, ◌≤◌, take, length}
 use Rattle.std.specs.Prelude.{filter}
-use Rattle.charts.specs.Views.{shows, most_pictured}
+use Rattle.chart_rows.specs.Views.{shows}
+use Rattle.charts.specs.Pictures.{most_pictured}
 use Rattle.charts.proofs.svg.last_pictured.Given as goal
 
 -- so many of those so far are drawn, which aren't too many

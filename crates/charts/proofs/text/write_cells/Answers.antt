@@ -1,6 +1,6 @@
 use Rattle.std.proofs.Common.{◌≤◌, [], ◌∷◌, arith, subst}
-use Rattle.charts.specs.{Cells.letter_at, Views.last_place}
-use Rattle.charts.specs.Text.{last_column}
+use Rattle.chart_rows.specs.{Cells.letter_at, Views.last_place}
+use Rattle.chart_rows.specs.Bands.{last_column}
 use Rattle.charts.proofs.Lines.{next_letter, one_less}
 use Rattle.charts.proofs.text.write_cells.Goals as goal
 

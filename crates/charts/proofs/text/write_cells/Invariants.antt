@@ -1,6 +1,7 @@
 use Rattle.std.proofs.Common.{map}
-use Rattle.charts.specs.{Cells.letter_at, Views.last_place}
-use Rattle.charts.specs.Text.{cells_text, last_column, places}
+use Rattle.chart_rows.specs.{Cells.letter_at, Views.last_place}
+use Rattle.charts.specs.Text.{cells_text, places}
+use Rattle.chart_rows.specs.Bands.{last_column}
 use Rattle.charts.proofs.Lines.{IsLeft}
 use Rattle.charts.proofs.text.write_cells.Given as goal
 

@@ -2,7 +2,7 @@ use Rattle.std.proofs.Common.{take}
 use Rattle.std.specs.Io.KnownBytes.{Appends}
 use Rattle.text_fields.specs.Each.{each_from}
 use Rattle.address_labels.specs.Labels.{marks_of}
-use Rattle.charts.specs.Order.{AreByFetch, AreOver}
+use Rattle.chart_rows.specs.Order.{AreByFetch, AreOver}
 use Rattle.charts.specs.Text.{row_text}
 use Rattle.charts.proofs.text.write_rows.Given as goal
 

@@ -1,7 +1,7 @@
 use Rattle.std.proofs.Common.{◌+◌, ◌*◌}
 use Rattle.std.specs.Io.KnownBytes.{Appends}
 use Rattle.address_labels.specs.Labels.{marks_of}
-use Rattle.charts.specs.Order.{AreByFetch, AreOver}
+use Rattle.chart_rows.specs.Order.{AreByFetch, AreOver}
 use Rattle.charts.specs.Text.{bands_text}
 use Rattle.charts.proofs.text.write_text.Given as goal
 

@@ -1,7 +1,7 @@
 use Rattle.std.proofs.Common.{◌≡◌, take}
 use Rattle.std.specs.Prelude.{filter}
 use Rattle.address_labels.specs.Labels.{marks_of}
-use Rattle.charts.specs.Views.{shows}
+use Rattle.chart_rows.specs.Views.{shows}
 use Rattle.charts.specs.Text.{widened_over}
 use Rattle.charts.proofs.label.Widths.of.Given as goal
 

@@ -1,0 +1,6 @@
+pub mod Rows
+pub mod Moves
+pub mod Cells
+pub mod Views
+pub mod Bands
+pub mod Order

@@ -1,9 +1,0 @@
-use Rattle.std.proofs.Common.{◌≤◌, ◌+◌, ◌*◌, arith}
-use Rattle.charts.proofs.Lines.{begins_inside}
-use Rattle.charts.proofs.view.View.band.Goals as goal
-
-pub returns : goal.returns
-returns c one_of =
-    let inside : c.args.self.now.from + c.args.number * c.args.columns ≤ c.args.self.now.to =
-    begins_inside c.args.self.now c.args.columns c.args.number one_of in
-    grind (arith, inside)
