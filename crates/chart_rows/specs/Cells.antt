@@ -3,7 +3,7 @@ use Rattle.std.specs.Prelude.{◌≡◌, ◌≢◌, ℕ, Bool, true, false, not,
 use Rattle.std.specs.Prelude.{Option, None, Some}
 use Rattle.events.specs.{declared.kind.EventKind.EventKind, Kind.letter_of}
 use Rattle.events.specs.declared.kind.EventKind.TheVariants as kinds
-use Rattle.chart_rows.specs.{declared.row.Row.Row, declared.row.Squash.Squash as AnySquash, declared.cell.Cell.Cell, declared.cause.Cause.Cause}
+use Rattle.chart_rows.specs.{declared.row.Row.Row, declared.row.Squash.Squash as AnySquash, declared.cell.Cell.Cell}
 use Rattle.chart_rows.specs.{Views.place_of_squash}
 use Rattle.chart_rows.specs.declared.cell.Cell.TheVariants.{Blank, Live, Event, Squash}
 
@@ -22,9 +22,14 @@ place_of kinds.Refetch row = row.refetched
 abbrev pub HasNone : Row → ℕ → Type 0
 HasNone row place = (kind : EventKind) → place_of kind row ≢ Some place
 
--- Nor was it squashed there.
+-- The event at this place squashed it, and is of this instruction.
+abbrev pub IsSquashedBy : ℕ → ℕ → Option AnySquash → Type 0
+IsSquashedBy place by None = ⊥
+IsSquashedBy place by (Some squash) = (squash.place ≡ place) × (squash.by ≡ by)
+
+-- None squashed it there.
 abbrev pub IsUnsquashed : Row → ℕ → Type 0
-IsUnsquashed row place = (by : ℕ) (cause : Cause) → row.squashed ≢ Some (record { place = place; by = by; cause = cause })
+IsUnsquashed row place = (by : ℕ) → IsSquashedBy place by row.squashed → ⊥
 
 abbrev pub is_over : Option ℕ → ℕ → Bool
 is_over None place = false
@@ -40,8 +45,7 @@ is_live row place =
 -- is live.
 abbrev pub IsCellOf : Row → ℕ → Cell → Type 0
 IsCellOf row place (Event kind) = place_of kind row ≡ Some place
-IsCellOf row place (Squash by) = HasNone row place
-    × ((cause : Cause) × (row.squashed ≡ Some (record { place = place; by = by; cause = cause })))
+IsCellOf row place (Squash by) = HasNone row place × IsSquashedBy place by row.squashed
 IsCellOf row place Live = HasNone row place × IsUnsquashed row place × (is_live row place ≡ true)
 IsCellOf row place Blank = HasNone row place × IsUnsquashed row place × (is_live row place ≡ false)
 
