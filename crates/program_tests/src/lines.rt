@@ -200,8 +200,13 @@ pub fn chart_line(svg: Option<&'static str>, kanata: Option<&'static str>) -> Li
         hart: None,
         names: false,
         width: 120,
+        columns: Columns::Events,
+        registers: false,
+        counters: false,
         svg,
         kanata,
+        title: None,
+        theme: None,
     },))
 }
 
@@ -228,6 +233,12 @@ pub const EXPLAIN_ORDER: Line<'static> = line!(Command::Explain(ExplainCommand {
     beside: Some(Beside::Order("order")),
 }));
 
+/// The reductions that a search leaves out where none is named.
+pub const NOTHING_LEFT_OUT: Without = Without {
+    conditional: false,
+    jumps: false,
+};
+
 /// The outcomes of an image, of so many states at the most.
 pub fn outcomes_line(states: u32) -> Line<'static> {
     program_line!(ProgramCommand::Outcomes(OutcomesCommand {
@@ -247,6 +258,8 @@ pub fn outcomes_line(states: u32) -> Line<'static> {
         theme: None,
         all: false,
         lines: None,
+        without: NOTHING_LEFT_OUT,
+        how: false,
     },))
 }
 
