@@ -1,5 +1,5 @@
 -- Lists of reductions, as a command line has them. (This project's own choice.)
-use Rattle.std.specs.Prelude.{◌≡◌, ◌≢◌, ℕ, true, List, [], ◌∷◌, ◌++◌, AllPairs, Contains, ⊥, ◌↔◌, char}
+use Rattle.std.specs.Prelude.{◌≡◌, ◌≢◌, ℕ, true, List, [], ◌∷◌, ◌++◌, AllPairs, Contains, ◌↔◌}
 use Rattle.reductions.specs.{Names.has, Names.name_of}
 use Rattle.reductions.specs.declared.{reduction.Reduction.Reduction, without.Without.Without}
 

@@ -1,7 +1,8 @@
 //! A list of reductions, as a command line has it.
 
-ghost use Rattle.std.specs.Prelude.{IfSome, ◌≡◌, None};
+ghost use Rattle.std.specs.Prelude.{◌≡◌, true, None, IfSome};
 ghost use Rattle.reductions.specs.Lists.{IsListed, IsNoList};
+ghost use Rattle.reductions.specs.Names.{has};
 
 use crate::reduction::Reduction;
 use crate::without::Without;
@@ -22,7 +23,9 @@ pub fn read_list(text: &str) -> Option<Without>
 }
 
 /// Each of them is left out.
-fn both() -> Without {
+fn both() -> Without
+    ensures { (reduction : Reduction) → has result reduction ≡ true }
+{
     Without::none()
         .and(Reduction::Conditional)
         .and(Reduction::Jumps)
