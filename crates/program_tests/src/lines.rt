@@ -1,9 +1,10 @@
 //! Lines of the program, as their words are read. None names a configuration.
 
+use reductions::Without;
 use sim_inputs::{
-    Beside, ChartCommand, ChartEnd, CheckCommand, Command, ExplainCommand, HintsWanted, Line,
-    ListCommand, LitmusCommand, MigrateCommand, OutcomesCommand, PlainCommand, ProgramCommand,
-    QuestionText, RunCommand, ScheduleCommand, ScriptCommand, StepCommand,
+    Beside, ChartCommand, ChartEnd, CheckCommand, Columns, Command, ExplainCommand, HintsWanted,
+    Line, ListCommand, LitmusCommand, MigrateCommand, OutcomesCommand, PlainCommand,
+    ProgramCommand, QuestionText, RunCommand, ScheduleCommand, ScriptCommand, StepCommand,
 };
 
 macro_rules! line {

@@ -10,9 +10,10 @@ use crate::lines::NOTHING_LEFT_OUT;
 use crate::rows::holds;
 use reductions::Without;
 use sim_inputs::{
-    Beside, ChartCommand, ChartEnd, CheckCommand, Columns, Command, ExplainCommand, HintsWanted, Line,
-    ListCommand, LitmusCommand, MigrateCommand, OutcomesCommand, PlainCommand, ProgramCommand,
-    QuestionText, RunCommand, ScheduleCommand, ScriptCommand, StepCommand, read_words, tests_asked,
+    Beside, ChartCommand, ChartEnd, CheckCommand, Columns, Command, ExplainCommand, HintsWanted,
+    Line, ListCommand, LitmusCommand, MigrateCommand, OutcomesCommand, PlainCommand,
+    ProgramCommand, QuestionText, RunCommand, ScheduleCommand, ScriptCommand, StepCommand,
+    read_words, tests_asked,
 };
 use std::alloc::{AllocError, Global};
 use story_pictures::Theme;
