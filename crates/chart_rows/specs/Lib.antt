@@ -1,3 +1,4 @@
+pub mod Causes
 pub mod Rows
 pub mod Moves
 pub mod Cells
