@@ -23,11 +23,7 @@ pub fn put_text<S: EndFiles>(text: &[u8], file: &mut S) -> Result<u8, Refused>
 }
 
 /// Puts the whole of two texts into two files, and finishes both. Answers the exit status, 0.
-pub fn put_two_texts<S: EndFiles>(
-    first: &[u8],
-    second: &[u8],
-    files: &mut S,
-) -> Result<u8, Refused>
+pub fn put_two_texts<S: EndFiles>(first: &[u8], second: &[u8], files: &mut S) -> Result<u8, Refused>
     requires works { S.has_failed files.old ≡ false }
     requires finished { S.is_finished files.old ≡ true }
     ensures put { OnOk result
