@@ -130,12 +130,24 @@ impl<'a, S: Files> OutputFiles<'a, S> {
         Ok(TwoFiles { first, beside })
     }
 
-    /// The second of them, begun behind the first. It may not be the same file.
+    /// The second of them, begun behind the first. It may not be the same file, nor come to be it as it is begun.
     fn beside_begun(&self) -> Result<OutputFile<'a, S>, FileFault> {
-        if are_one_place(self.files, self.places.file, self.places.beside) {
+        if self.are_one() {
             return Err(FileFault::IsWritten);
         }
-        self.begun_as(self.places.beside)
+        let beside = match self.begun_as(self.places.beside) {
+            Ok(beside) => beside,
+            Err(fault) => return Err(fault),
+        };
+        if self.are_one() {
+            beside.discard();
+            return Err(FileFault::IsWritten);
+        }
+        Ok(beside)
+    }
+
+    fn are_one(&self) -> bool {
+        are_one_place(self.files, self.places.file, self.places.beside)
     }
 
     /// Writes both of them, each whole.
