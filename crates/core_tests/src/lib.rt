@@ -39,6 +39,8 @@ mod plain_run_tests;
 #[cfg(test)]
 mod reasons_tests;
 #[cfg(test)]
+mod reductions_tests;
+#[cfg(test)]
 mod refused_traces_tests;
 #[cfg(test)]
 mod rows;
