@@ -47,6 +47,8 @@ mod rows;
 #[cfg(test)]
 mod sc_machine_tests;
 #[cfg(test)]
+mod searched;
+#[cfg(test)]
 mod smt_core_tests;
 #[cfg(test)]
 mod stories_tests;

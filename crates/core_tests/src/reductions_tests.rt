@@ -2,14 +2,11 @@
 //! reduction say.
 
 use crate::rows::holds;
-use arrayvec::ArrayVec;
-use elf_image::Image;
+use crate::searched::{image_with, watching_nothing};
 use outcomes::{Extent, Outcomes, find_outcomes};
 use reductions::{Reduction, Without, read_list};
 use smt_model::Status;
 use std::alloc::Global;
-use test_support::{file_of, image_of};
-use watched_outcomes::Watch;
 
 /// Each hart adds 1 to a word in a lock by LR and SC: `lui x5,0x80001`, `a: lr.w x6,(x5)`, `bne x6,x0,a`,
 /// `sc.w x6,x11,(x5)`, `bne x6,x0,a`, `lw x7,4(x5)`, `addi x7,x7,1`, `sw x7,4(x5)`, `sw x0,0(x5)`, `addi x10,x7,0`,
@@ -109,19 +106,6 @@ const STATES_OF_FAILING: [Row; 4] = [
     ("without J", NO_JUMPS, 1),
     ("without both", NEITHER, 4),
 ];
-
-fn image_with(words: &[u32], alloc: Global) -> Option<Image> {
-    let file = file_of(words, 0, alloc).ok()?;
-    image_of(file.as_slice(), 65536, alloc)
-}
-
-/// Nothing is watched.
-fn watching_nothing() -> Watch {
-    Watch {
-        registers: ArrayVec::new(),
-        words: ArrayVec::new(),
-    }
-}
 
 /// Whether an outcome is that of two harts that have ended with these numbers.
 fn ends_with(found: &Outcomes, index: usize, ends: (u32, u32)) -> bool {
