@@ -59,6 +59,13 @@ searched_some image harts without anywhere found is = record {
     absurd_of : false ≡ true → is.machine.program.targets.anywhere ≡ true
     absurd_of all = cc
 
+pub if_searched_some : {E : Type 0} → (image : ProgramImage) (harts : ℕ) (without : Without) (anywhere : Bool)
+    (r : Result Found E) → IfOk r (IsSearchedWith image harts without anywhere)
+    → IfOk r (IsSearchedWith image harts without false)
+if_searched_some image harts without anywhere (Ok found) is =
+    searched_some image harts without anywhere found is
+if_searched_some image harts without anywhere (Err why) is = tt
+
 -- What is told of each value of what was asked is so of that value.
 pub if_so : {E : Type 0} → (image : ProgramImage) (harts : ℕ) (without : Without) (anywhere : Bool) (r : Result Found E)
     → anywhere ≡ without.jumps → IfOk r (IsSearchedWith image harts without anywhere)
