@@ -1,4 +1,4 @@
-//! Charts: the pipeline as a person draws it, a row for each instruction, a column for each event.
+//! Charts: the pipeline as a person draws it, a row for each instruction, a column for each event or for several.
 //!
 //! Read in this order: `label` (the names of rows); then what is drawn: `text`, `svg` and `kanata`.
 #![tactic(auto)]
@@ -10,4 +10,4 @@ mod text;
 
 pub use kanata::write_kanata;
 pub use svg::{MOST_PICTURED, last_pictured, write_svg};
-pub use text::write_text;
+pub use text::{TextChart, write_text};
