@@ -147,8 +147,12 @@ def names_of(rows, first, last, hart):
     return Names(rows, [row for row in rows if row.is_shown(first, last, hart)])
 
 
+UNDER = "under the rows"
+
+
 def bands(rows, first, last, hart, columns):
-    """The lines of a chart in bands of so many columns, each line with the row that it is of, if it is of one."""
+    """The lines of a chart in bands of so many columns, each with the row that it is of: none for what stands over the
+    rows, and UNDER for what stands under them."""
     names = names_of(rows, first, last, hart)
     for start in range(first, last + 1, columns):
         end = min(last, start + columns - 1)
@@ -164,12 +168,12 @@ def bands(rows, first, last, hart, columns):
                 stop = end if row.in_last() is None else min(end, row.in_last())
                 yield names.of(row) + "".join(row.cell(n) for n in range(start, stop + 1)) + row.remark(start, end), row
         if Counted.history is not None:
-            yield from ((line, None) for line in Counted.lines(names.room, start, end, hart))
+            yield from ((line, UNDER) for line in Counted.lines(names.room, start, end, hart))
         for place in range(len(Row.columns.of)):
             if start <= Row.columns.of[place] <= end:
-                gone = [row for row in rows if row.squash == place and row.at.get("G") != place and hart in (None, row.hart)]
+                gone = [row for row in rows if row.squash == place and "G" not in row.at and hart in (None, row.hart)]
                 if gone:
-                    yield f"x at {place}: {why_squashed(rows, gone[0])}", None
+                    yield f"x at {place}: {why_squashed(rows, gone[0])}", UNDER
 
 
 def why_squashed(rows, row):
@@ -202,7 +206,8 @@ class Counted:
         kinds += [(f"in flight {h}", [len(cls.history.flight(n, h)) for n in behind]) for h in harts]
         kinds.append(("free", [cls.free(n) for n in behind]))
         for name, numbers in kinds:
-            digits = [("" if number is None else f"{number:x}" if name == "chosen" else str(number)) for number in numbers]
+            spell = (lambda number: f"{number:x}") if name == "chosen" else str
+            digits = ["" if number is None else spell(number) for number in numbers]
             tall = max(1, *map(len, digits))
             for line in range(tall):
                 label = name if line == tall - 1 else ""
@@ -210,7 +215,8 @@ class Counted:
 
     @classmethod
     def chosen(cls, column):
-        fetched = [cls.history.events[n].hart for n in Row.columns.places(column) if isinstance(cls.history.events[n], Fetch)]
+        events = [cls.history.events[place] for place in Row.columns.places(column)]
+        fetched = [event.hart for event in events if isinstance(event, Fetch)]
         return fetched[-1] if fetched else None
 
     @classmethod
@@ -272,6 +278,8 @@ def picture(history, rows, first, last, hart, width):
     columns = max(1, min(last - first + 1, width))
     start, ruler, is_first = first - columns, None, True
     for line, row in bands(rows, first, last, hart, columns):
+        if row is UNDER:
+            continue
         if row is None:
             # A band without a row can't be seen, so its numbers wait for one.
             start += columns if line else 0
@@ -305,7 +313,7 @@ def kanata(history, rows, first, last, hart):
     """The lines of the log: the instructions that are shown, each of them whole."""
     shown = [row for row in rows if row.is_shown(first, last, hart)]
     ids = {row.number: n for n, row in enumerate(shown)}
-    cycle, left = shown[0].at["F"] if shown else 0, 0
+    cycle, left = shown[0].in_at["F"] if shown else 0, 0
     stages = {}
     yield "Kanata\t0004"
     yield f"C=\t{cycle}"
@@ -344,9 +352,10 @@ def kanata(history, rows, first, last, hart):
                 else:
                     lines.append(f"R\t{id}\t{left}\t1")
                     left += 1
-        if lines and n > cycle:
-            yield f"C\t{n - cycle}"
-            cycle = n
+        column = Row.columns.of[n]
+        if lines and column > cycle:
+            yield f"C\t{column - cycle}"
+            cycle = column
         yield from lines
 
 

@@ -13,7 +13,7 @@ ghost use Rattle.symbols.specs.Tables.{table_of};
 
 use crate::chart_ends::Drawn;
 use crate::check::{config_by, follow_all, read_events};
-use crate::drawing::{Made, made_of};
+use crate::drawing::{Made, Traced, made_of};
 use chart_rows::{Row, rows_of};
 use command_parts::{Context, Refused, put_text, put_two_texts};
 use elf_image::Image;
@@ -62,7 +62,12 @@ pub fn perform_chart<R, G, P, S: EndFiles, W: Write>(
         names,
     };
     // Handed on as it is: a `?` would leave the prover to find what the refusal becomes.
-    let made = match made_of(&drawn, chart, alloc) {
+    let traced = Traced {
+        image,
+        settings,
+        trace: &trace,
+    };
+    let made = match made_of(&traced, &drawn, chart, alloc) {
         Ok(made) => made,
         Err(refused) => return Err(refused),
     };

@@ -1,20 +1,33 @@
 //! A chart as it is drawn: what stands in which column, and the text, the picture and the log that are made of it.
 
-ghost use Rattle.std.specs.Prelude.{◌≡◌, ◌≤◌, None, IfOk, IfErr, IfSome, IfNone, length};
+ghost use Rattle.std.specs.Prelude.{◌≡◌, ◌≤◌, None, IfOk, IfErr, length};
 ghost use Rattle.numbers.specs.Sizes.{most_events};
 ghost use Rattle.chart_rows.specs.Order.{AreByFetch};
-ghost use Rattle.core_commands.specs.Chart.{BetweenEnds, Fits, IsDrawingRefusal, IsTextOf, IsTooLarge};
+ghost use Rattle.core_commands.specs.Chart.{BetweenEnds, IsDrawingRefusal, IsTextOf};
 ghost use Rattle.symbols.specs.Tables.{table_of};
 ghost use Rattle.address_labels.specs.Labels.{marks_of, marks_where};
 
 use crate::chart_ends::{Drawn, ends_of};
+use crate::check::config_by;
 use address_labels::Labels;
 use chart_columns::ColumnTable;
+use chart_counters::{Counters, counters_of};
+use chart_registers::{Registers, registers_of};
 use chart_rows::{Row, View};
-use charts::{last_pictured, write_kanata, write_svg, write_text};
+use charts::{TextChart, last_pictured, write_kanata, write_svg, write_text};
 use command_parts::Refused;
-use sim_inputs::{ChartCommand, Columns};
+use elf_image::Image;
+use event_text::Trace;
+use sim_inputs::{ChartCommand, Columns, Settings};
 use std::alloc::{AllocError, Global};
+
+/// A trace, and what tells of which core it is.
+#[derive(Clone, Copy, Drop)]
+pub(crate) struct Traced<'a> {
+    pub image: &'a Image,
+    pub settings: &'a Settings,
+    pub trace: &'a Trace,
+}
 
 /// What a chart comes to.
 #[derive(Drop)]
@@ -25,8 +38,28 @@ pub(crate) struct Made {
     pub beside: Option<Vec<u8>>,
 }
 
-/// What a chart of a history comes to.
+/// What is drawn of a history, by its columns.
+#[derive(Clone, Copy, Drop)]
+struct Shown<'a> {
+    /// The rows of its instructions, with columns where the places of events are.
+    placed: &'a [Row],
+    columns: &'a ColumnTable,
+    /// The columns that are drawn.
+    view: View,
+}
+
+/// What is told beside the rows; nothing where it isn't wanted.
+#[derive(Clone, Copy, Drop)]
+struct Told<'a> {
+    /// The numbers behind each event of the columns that are drawn.
+    counters: &'a [Counters],
+    /// The registers of each instruction of the history.
+    registers: &'a [Option<Registers>],
+}
+
+/// What a chart of the history of a trace comes to.
 pub(crate) fn made_of(
+    traced: &Traced<'_>,
     drawn: &Drawn<'_>,
     chart: &ChartCommand<'_>,
     alloc: Global,
@@ -41,24 +74,14 @@ pub(crate) fn made_of(
     let columns = columns_of(chart.columns, drawn, alloc)?;
     let placed = placed_rows(chart.columns, drawn.rows, &columns, alloc)?;
     let shown = Shown {
-        rows: match &placed {
+        placed: match &placed {
             Some(placed) => placed.as_slice(),
             None => drawn.rows,
         },
         columns: &columns,
         view: columns.view(&view),
     };
-    draw(drawn, &shown, chart, alloc)
-}
-
-/// What is drawn of a history, by its columns.
-#[derive(Clone, Copy, Drop)]
-struct Shown<'a> {
-    /// The rows of its instructions, with columns where the places of events are.
-    rows: &'a [Row],
-    columns: &'a ColumnTable,
-    /// The columns that are drawn.
-    view: View,
+    draw(traced, drawn, &shown, chart, alloc)
 }
 
 /// What the columns of a chart are.
@@ -90,6 +113,7 @@ fn placed_rows(
 
 /// What is drawn of a history, where a picture isn't too large.
 fn draw(
+    traced: &Traced<'_>,
     drawn: &Drawn<'_>,
     shown: &Shown<'_>,
     chart: &ChartCommand<'_>,
@@ -98,7 +122,13 @@ fn draw(
     if let Some(last) = too_large(shown, chart) {
         return Err(Refused::Picture(last));
     }
-    let text = first_text(drawn, shown, chart, alloc)?;
+    let counters = counters_in(traced, shown, chart.counters, alloc)?;
+    let registers = registers_in(traced, chart.registers, alloc)?;
+    let told = Told {
+        counters: counters.as_slice(),
+        registers: registers.as_slice(),
+    };
+    let text = first_text(traced, drawn, shown, &told, chart, alloc)?;
     let beside = match chart.written_beside() {
         Some(_) => Some(log_of(drawn, shown, chart, alloc)?),
         None => None,
@@ -111,16 +141,55 @@ fn too_large(shown: &Shown<'_>, chart: &ChartCommand<'_>) -> Option<u32> {
     if chart.svg.is_none() {
         return None;
     }
-    match last_pictured(shown.rows, &shown.view) {
+    match last_pictured(shown.placed, &shown.view) {
         Some(column) => Some(shown.columns.last(column)),
         None => None,
     }
 }
 
+/// The numbers behind each event of the columns that are drawn, where they are wanted; else none.
+fn counters_in(
+    traced: &Traced<'_>,
+    shown: &Shown<'_>,
+    are_wanted: bool,
+    alloc: Global,
+) -> Result<Vec<Counters>, Refused> {
+    if !are_wanted || shown.view.from > shown.view.to {
+        return Ok(Vec::new(alloc));
+    }
+    let config = config_by(traced.settings, traced.trace.head());
+    let (from, to) = (
+        shown.columns.head(shown.view.from),
+        shown.columns.last(shown.view.to),
+    );
+    match counters_of(traced.image, config, traced.trace.events(), from, to, alloc) {
+        Ok(counters) => Ok(counters),
+        Err(AllocError) => Err(Refused::Memory),
+    }
+}
+
+/// The registers of each instruction of a history, where they are wanted; else none.
+fn registers_in(
+    traced: &Traced<'_>,
+    are_wanted: bool,
+    alloc: Global,
+) -> Result<Vec<Option<Registers>>, Refused> {
+    if !are_wanted {
+        return Ok(Vec::new(alloc));
+    }
+    let config = config_by(traced.settings, traced.trace.head());
+    match registers_of(traced.image, config, traced.trace.events(), alloc) {
+        Ok(registers) => Ok(registers),
+        Err(AllocError) => Err(Refused::Memory),
+    }
+}
+
 /// The text of a chart, or what goes into its file: a picture, or else a log.
 fn first_text(
+    traced: &Traced<'_>,
     drawn: &Drawn<'_>,
     shown: &Shown<'_>,
+    told: &Told<'_>,
     chart: &ChartCommand<'_>,
     alloc: Global,
 ) -> Result<Vec<u8>, Refused> {
@@ -130,19 +199,31 @@ fn first_text(
     if chart.kanata.is_some() {
         return log_of(drawn, shown, chart, alloc);
     }
-    text_of(drawn, shown, chart, alloc)
+    text_of(traced, drawn, shown, told, chart, alloc)
 }
 
 /// The text of a chart.
 fn text_of(
+    traced: &Traced<'_>,
     drawn: &Drawn<'_>,
     shown: &Shown<'_>,
+    told: &Told<'_>,
     chart: &ChartCommand<'_>,
     alloc: Global,
 ) -> Result<Vec<u8>, Refused> {
     let mut text = Vec::new(alloc);
-    let labels = labels_of(chart, drawn);
-    match write_text(shown.rows, &shown.view, chart.width, &labels, &mut text) {
+    let drawing = TextChart {
+        rows: shown.placed,
+        events: drawn.events,
+        columns: shown.columns,
+        view: shown.view,
+        width: chart.width,
+        harts: config_by(traced.settings, traced.trace.head()).harts,
+        labels: labels_of(chart, drawn),
+        counters: told.counters,
+        registers: told.registers,
+    };
+    match write_text(&drawing, &mut text) {
         Ok(()) => Ok(text),
         Err(_) => Err(Refused::Memory),
     }
@@ -158,7 +239,7 @@ fn picture_of(
     let mut text = Vec::new(alloc);
     let labels = labels_of(chart, drawn);
     match write_svg(
-        shown.rows,
+        shown.placed,
         drawn.events,
         &shown.view,
         chart.width,
@@ -180,7 +261,7 @@ fn log_of(
     let mut text = Vec::new(alloc);
     let labels = labels_of(chart, drawn);
     match write_kanata(
-        shown.rows,
+        shown.placed,
         drawn.events,
         &shown.view,
         &labels,
