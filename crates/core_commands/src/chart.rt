@@ -12,8 +12,9 @@ ghost use Rattle.core_commands.specs.Chart.{IsChartRefusal, IsHartRefusal, Chart
 ghost use Rattle.symbols.specs.Tables.{table_of};
 
 use crate::chart_ends::Drawn;
+use crate::chart_told::Traced;
 use crate::check::{config_by, follow_all, read_events};
-use crate::drawing::{Made, Traced, made_of};
+use crate::drawing::{Made, made_of};
 use chart_rows::{Row, rows_of};
 use command_parts::{Context, Refused, put_text, put_two_texts};
 use elf_image::Image;
