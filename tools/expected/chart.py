@@ -126,9 +126,9 @@ class Names:
         name_of = (lambda row: "") if Names.beside is None else (lambda row: Names.beside(row.fetch.pc) + " ")
         self.names = {row.number: name_of(row) for row in shown}
         self.name = max(map(len, self.names.values()), default=0)
-        found = (lambda row: "") if Names.registers is None else (lambda row: Names.registers(row) + " ")
-        self.found = {row.number: found(row) for row in shown}
-        self.beside_name = max(map(len, self.found.values()), default=0)
+        self.found = {row.number: "" if Names.registers is None else Names.registers(row) for row in shown}
+        widest = max(map(len, self.found.values()), default=0)
+        self.beside_name = widest + 1 if widest else 0
         self.hart = len(str(max((row.hart for row in shown), default=0)))
         self.number = len(str(max((row.number for row in rows), default=0)))
         self.text = max((len(row.text) for row in shown), default=0)
