@@ -148,7 +148,10 @@ fn draw(
         columns: &columns,
         view: columns.view(view),
         width: chart.width,
+        harts: 1,
         labels: labels_of(chart, drawn),
+        counters: &[],
+        registers: &[],
     };
     match write_text(&made, &mut text) {
         Ok(()) => Ok(text),

@@ -341,7 +341,10 @@ fn chart_of(core: &Core, alloc: Global) -> Result<Vec<u8>, AllocError>
         columns: &ColumnTable::events(),
         view,
         width: COLUMNS,
+        harts: 1,
         labels: Labels::none(),
+        counters: &[],
+        registers: &[],
     };
     match write_text(&chart, &mut text) {
         Ok(()) => Ok(text),
