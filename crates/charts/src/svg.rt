@@ -49,10 +49,11 @@ pub fn write_svg<W: Write>(
 ) -> io::Result<()> {
     // A band is no wider than what there is to see.
     let columns = view.span().min(width).max(1);
-    let widths = Widths::of(rows, view, labels);
+    let widths = Widths::of(rows, view, labels, &[]);
     let named = Named {
         labels,
         form: Form::Drawn,
+        registers: &[],
     };
     let page = Page::of(rows, view, columns, &widths);
     page.write_head(rows, view, out)?;
