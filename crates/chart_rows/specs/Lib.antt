@@ -5,3 +5,4 @@ pub mod Cells
 pub mod Views
 pub mod Bands
 pub mod Order
+pub mod Looks

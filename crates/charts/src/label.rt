@@ -115,8 +115,8 @@ impl Widths {
     pub fn remark(&self) -> usize
         ensures { result ≡ remark_width self.now }
     {
-        // Either ` by ` and a number, or ` replayed`.
-        (usize::from(self.number) + 4).max(9)
+        // Either ` by ` and a number, or ` refetched`.
+        (usize::from(self.number) + 4).max(10)
     }
 
     /// Writes the name of the row with this number, with what is wanted beside its pc.

@@ -13,4 +13,4 @@ mod text;
 pub use chart::Chart;
 pub use kanata::write_kanata;
 pub use svg::{MOST_PICTURED, PictureForm, Theme, last_pictured, write_svg};
-pub use text::write_text;
+pub use text::{TextChart, write_text};

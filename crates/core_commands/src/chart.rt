@@ -19,7 +19,8 @@ use crate::chart_ends::{Drawn, ends_of};
 use crate::check::{config_by, follow_all, read_events};
 use address_labels::Labels;
 use chart_rows::{Row, View, rows_of};
-use charts::{last_pictured, write_kanata, write_svg, write_text};
+use chart_columns::ColumnTable;
+use charts::{TextChart, last_pictured, write_kanata, write_svg, write_text};
 use command_parts::{Context, Refused, put_text};
 use elf_image::Image;
 use event_text::Trace;
@@ -139,13 +140,17 @@ fn draw(
         return drawing(drawn, chart, view, alloc);
     }
     let mut text = Vec::new(alloc);
-    match write_text(
-        drawn.rows,
-        view,
-        chart.width,
-        &labels_of(chart, drawn),
-        &mut text,
-    ) {
+    let columns = if chart.names { ColumnTable::rounds(drawn.rows, drawn.events, alloc).map_err(|_| Refused::Memory)? } else { ColumnTable::events() };
+    let placed = columns.place_all(drawn.rows, alloc).map_err(|_| Refused::Memory)?;
+    let made = TextChart {
+        rows: placed.as_slice(),
+        events: drawn.events,
+        columns: &columns,
+        view: columns.view(view),
+        width: chart.width,
+        labels: labels_of(chart, drawn),
+    };
+    match write_text(&made, &mut text) {
         Ok(()) => Ok(text),
         Err(_) => Err(Refused::Memory),
     }

@@ -17,7 +17,8 @@ use crate::command::{Command, read_command};
 use crate::simulation::{Asked, Simulation};
 use address_labels::Labels;
 use chart_rows::{View, rows_of};
-use charts::write_text;
+use chart_columns::ColumnTable;
+use charts::{TextChart, write_text};
 use events::{Event, History};
 use explained_asks::explain;
 use numbers::sizes::MOST_ACTORS;
@@ -334,7 +335,15 @@ fn chart_of(core: &Core, alloc: Global) -> Result<Vec<u8>, AllocError>
     let rows = rows_of(events.as_slice(), alloc)?;
     let view = View::new(0, u32::MAX, None, events.len());
     let mut text = Vec::new(alloc);
-    match write_text(rows.as_slice(), &view, COLUMNS, &Labels::none(), &mut text) {
+    let chart = TextChart {
+        rows: rows.as_slice(),
+        events: events.as_slice(),
+        columns: &ColumnTable::events(),
+        view,
+        width: COLUMNS,
+        labels: Labels::none(),
+    };
+    match write_text(&chart, &mut text) {
         Ok(()) => Ok(text),
         Err(_) => Err(AllocError),
     }
