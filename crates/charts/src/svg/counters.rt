@@ -70,7 +70,7 @@ fn of_hart(counts: &[u32], hart: u8) -> u32 {
 
 /// How many strips a band has.
 pub(crate) fn strips_of(chart: &Chart<'_>, form: &PictureForm<'_>) -> u32 {
-    if form.counters.is_none() {
+    if form.counters.is_empty() {
         return 0;
     }
     let harts = match chart.view.hart {
@@ -87,9 +87,10 @@ pub(crate) fn write_strips<W: Write>(
     top: u32,
     out: &mut W,
 ) -> io::Result<u32> {
-    let Some(counters) = sheet.form.counters else {
+    let counters = sheet.form.counters;
+    if counters.is_empty() {
         return Ok(top);
-    };
+    }
     let mut top = write_by_hart(sheet, counters, false, band, top, out)?;
     top = write_chosen(sheet, counters, band, top, out)?;
     for part in [Part::Alu, Part::Mul, Part::Mem] {

@@ -25,8 +25,8 @@ pub struct PictureForm<'a> {
     pub image: &'a [u8],
     pub trace: &'a [u8],
     pub theme: Theme,
-    /// The numbers behind each event from the first one that is drawn on, where they are wanted.
-    pub counters: Option<&'a [Counters]>,
-    /// The registers of each instruction by rising number, where they are wanted.
-    pub registers: Option<&'a [Option<Registers>]>,
+    /// The numbers behind each event from the first one that is drawn on; nothing where they aren't wanted.
+    pub counters: &'a [Counters],
+    /// The registers of each instruction by rising number; nothing where they aren't wanted.
+    pub registers: &'a [Option<Registers>],
 }

@@ -126,10 +126,7 @@ fn second_look(row: &Row, events: &[Event]) -> Option<u32> {
 
 /// Writes the registers of an instruction that was renamed, where they are wanted.
 fn write_registers<W: Write>(sheet: &Sheet<'_>, number: usize, out: &mut W) -> io::Result<()> {
-    let Some(table) = sheet.form.registers else {
-        return Ok(());
-    };
-    match table.get(number) {
+    match sheet.form.registers.get(number) {
         Some(Some(registers)) => write_renamed(registers, out),
         _ => Ok(()),
     }

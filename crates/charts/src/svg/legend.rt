@@ -62,7 +62,7 @@ const COUNTERS_LINE: u32 = 154;
 
 /// The height of the legend.
 pub(crate) fn legend_height(chart: &Chart<'_>, form: &PictureForm<'_>) -> u32 {
-    let below = if form.counters.is_some() { LINES + 1 } else { LINES };
+    let below = if form.counters.is_empty() { LINES } else { LINES + 1 };
     hart_lines(chart)
         .saturating_add(below)
         .saturating_mul(LINE)
@@ -82,7 +82,7 @@ fn hart_lines(chart: &Chart<'_>) -> u32 {
 
 /// The width of the legend, with its margins.
 pub(crate) fn legend_width(form: &PictureForm<'_>) -> u32 {
-    if form.registers.is_some() {
+    if !form.registers.is_empty() {
         return WIDTH + 180;
     }
     WIDTH
@@ -121,7 +121,7 @@ fn write_left<W: Write>(
     if !chart.labels.are_none() {
         out.write_all(b", name of the code")?;
     }
-    if form.registers.is_some() {
+    if !form.registers.is_empty() {
         out.write_all(
             b", registers (x7&gt;p33 written to p33, x5&lt;p31:4 read from p31, which number 4 writes)",
         )?;
@@ -131,7 +131,7 @@ fn write_left<W: Write>(
 
 /// Writes what stands below the rows.
 fn write_below<W: Write>(form: &PictureForm<'_>, out: &mut W) -> io::Result<()> {
-    if form.counters.is_none() {
+    if form.counters.is_empty() {
         return Ok(());
     }
     write_label(

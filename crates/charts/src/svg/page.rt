@@ -57,7 +57,7 @@ impl Page {
         Page {
             left,
             first,
-            width: width.max(heading_width(chart, form)).max(legend_width(chart, form)),
+            width: width.max(heading_width(chart, form)).max(legend_width(form)),
             height: first.saturating_add(bands_height(chart, form, columns)),
         }
     }
