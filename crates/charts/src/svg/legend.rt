@@ -31,18 +31,18 @@ const MARKS: &[u8] = b"<text class=\"far\" x=\"12\" y=\"14\"><tspan class=\"key\
 <text class=\"far\" x=\"288\" y=\"14\"><tspan class=\"key\">I</tspan> issued</text>
 <text class=\"far\" x=\"372\" y=\"14\"><tspan class=\"key\">C</tspan> completed</text>
 <text class=\"far\" x=\"478\" y=\"14\"><tspan class=\"key\">T</tspan> retired</text>
-<text class=\"far\" x=\"12\" y=\"34\"><tspan class=\"key\">G</tspan> fetched again: another word stands there now</text>
-<text class=\"far\" x=\"370\" y=\"34\"><tspan class=\"x\">x</tspan> squashed</text>
-<text class=\"far\" x=\"460\" y=\"34\"><tspan class=\"key\">X</tspan> handed back by its unit</text>
+<text class=\"far\" x=\"12\" y=\"34\"><tspan class=\"key\">G</tspan> refetched: another word stands there now</text>
+<text class=\"far\" x=\"354\" y=\"34\"><tspan class=\"x\">x</tspan> squashed</text>
+<text class=\"far\" x=\"446\" y=\"34\"><tspan class=\"key\">X</tspan> handed back by its unit</text>
 <rect class=\"bar any\" x=\"12\" y=\"43\" width=\"36\" height=\"15\"/>
 <path class=\"edge eany\" d=\"M12 43H48V58H12z\"/>
 <text class=\"far\" x=\"56\" y=\"54\">in the pipeline</text>
 <rect class=\"bar pale any\" x=\"184\" y=\"43\" width=\"36\" height=\"15\"/>
 <path class=\"edge dashed eany\" d=\"M184 43H220V58H184z\"/>
-<text class=\"far\" x=\"228\" y=\"54\">to be squashed</text>
-<rect class=\"bar any\" x=\"354\" y=\"43\" width=\"32\" height=\"15\"/>
-<path class=\"edge eany\" d=\"M390 43H354V58H390\"/>
-<text class=\"far\" x=\"400\" y=\"54\">goes on in the next band, or unseen</text>
+<text class=\"far\" x=\"228\" y=\"54\">squashed</text>
+<rect class=\"bar any\" x=\"312\" y=\"43\" width=\"32\" height=\"15\"/>
+<path class=\"edge eany\" d=\"M348 43H312V58H348\"/>
+<text class=\"far\" x=\"356\" y=\"54\">goes on in the next band, or behind what is drawn</text>
 <circle class=\"again\" cx=\"20\" cy=\"70\" r=\"7\"/>
 <text x=\"20\" y=\"74\" text-anchor=\"middle\">T</text>
 <text class=\"far\" x=\"36\" y=\"74\">a load's second look found another number</text>
@@ -50,7 +50,7 @@ const MARKS: &[u8] = b"<text class=\"far\" x=\"12\" y=\"14\"><tspan class=\"key\
 <text x=\"368\" y=\"74\" text-anchor=\"middle\">T</text>
 <text class=\"far\" x=\"384\" y=\"74\">found the same number</text>
 <path class=\"arrow\" marker-end=\"url(#point)\" d=\"M12 90H48\"/>
-<text class=\"far\" x=\"56\" y=\"94\">to a load from the store that wrote between its looks (from N: that is number N)</text>
+<text class=\"far\" x=\"56\" y=\"94\">from the store that wrote between a load's looks to its second (from N: number N)</text>
 ";
 
 /// Where the lines of `MARKS` end, and the two behind them.
@@ -103,7 +103,7 @@ pub(crate) fn write_legend<W: Write>(
         "far",
         MARGIN,
         BEHIND_LINE,
-        "over the columns: the place of an event; behind a row: what squashed it, by the number of that",
+        "over the columns: the places of events; behind a row: what squashed it (by N: number N)",
         out,
     )?;
     write_below(form, out)?;
@@ -138,7 +138,7 @@ fn write_below<W: Write>(form: &PictureForm<'_>, out: &mut W) -> io::Result<()> 
         "far",
         MARGIN,
         COUNTERS_LINE,
-        "below the rows: how full each part is behind a column, the highest as high as its line says",
+        "below the rows: how many there are behind each column (ICOUNT: in decode, rename and queue)",
         out,
     )
 }
