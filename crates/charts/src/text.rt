@@ -1,64 +1,68 @@
-//! The chart as text: a row an instruction, a column an event, cut into bands that fit a screen.
+//! The chart as text: a row an instruction, a column an event or several, cut into bands that fit a screen.
 
 ghost use Rattle.std.specs.Prelude.{◌≡◌, ◌≤◌, ◌<◌, ◌^◌, ◌∷◌, [], if◌then◌else◌, IfOk, OnOk};
 ghost use Rattle.std.specs.Io.KnownBytes.{Appends};
-ghost use Rattle.address_labels.specs.Labels.{marks_of};
 ghost use Rattle.text_fields.specs.Each.{each_from};
-ghost use Rattle.chart_rows.specs.Cells.{letter_at};
 ghost use Rattle.chart_rows.specs.Views.{shows};
 ghost use Rattle.chart_rows.specs.Order.{AreByFetch, AreOver};
-ghost use Rattle.charts.specs.Text.{
-  band_text,
-  by_text,
-  cells_text,
-  chart_text,
-  column_behind,
-  columns_in,
-  gap_before,
-  line_text,
-  remark_text,
-  replayed_text,
-  row_text,
-  number_over,
-  places,
-  ruler_from,
-  ruler_text,
-};
+ghost use Rattle.charts.specs.Text.{band_text, chart_text, columns_in, gap_before, row_text};
 
-use crate::label::{Named, Widths, write_spaces};
+mod counted;
+mod line;
+mod ruler;
+mod why;
+
+use crate::label::{Named, Widths};
 use address_labels::{Form, Labels};
-use arrayvec::ArrayString;
+use chart_columns::ColumnTable;
+use chart_counters::Counters;
+use chart_registers::Registers;
 use chart_rows::{Band, Row, View, first_left};
+use counted::write_counters;
+use events::Event;
+use line::write_line;
+use ruler::write_ruler;
 use std::io;
 use std::io::Write;
-use text_fields::push_decimal;
+use why::write_whys;
 
 /// The fewest columns of a band, however narrow the screen is.
 const FEWEST_COLUMNS: u32 = 10;
 
-/// How many columns lie from one number over them to the next.
-const COLUMNS_A_NUMBER: u64 = 10;
+/// What is drawn as text, and how.
+#[derive(Clone, Copy, Drop)]
+pub struct TextChart<'a> {
+    /// The rows of a history, with columns where the places of events were.
+    pub rows: &'a [Row],
+    /// Its events, the oldest first.
+    pub events: &'a [Event],
+    pub columns: &'a ColumnTable,
+    /// The columns and rows that are drawn.
+    pub view: View,
+    /// How many characters a line has.
+    pub width: u32,
+    /// How many harts the core has.
+    pub harts: u8,
+    /// What is wanted beside the pcs.
+    pub labels: Labels<'a>,
+    /// What is counted behind each event, from the first in the first column that is drawn on; nothing where it isn't
+    /// wanted.
+    pub counters: &'a [Counters],
+    /// The registers of each instruction, by number; nothing where they aren't wanted.
+    pub registers: &'a [Option<Registers>],
+}
 
-/// Writes the chart of some rows, of which the view shows a part, in lines of `width` characters
-/// (docs/FORMATS.md), with what is wanted beside their pcs. An error is the one that `out` answered.
-pub fn write_text<W: Write>(
-    rows: &[Row],
-    view: &View,
-    width: u32,
-    labels: &Labels<'_>,
-    out: &mut W,
-) -> io::Result<()>
-    ensures { OnOk result (AreByFetch rows.now → Appends (W.contents out.old) (W.contents out.new)
-        (chart_text width (marks_of labels.now) view.now rows.now)) }
-{
-    let widths = Widths::of(rows, view, labels);
-    let columns = columns_in(width, &widths);
+/// Writes a chart in lines of so many characters as are wanted (docs/FORMATS.md). An error is the one that `out`
+/// answered.
+pub fn write_text<W: Write>(chart: &TextChart<'_>, out: &mut W) -> io::Result<()> {
+    let widths = Widths::of(chart.rows, &chart.view, &chart.labels, chart.registers);
+    let columns = columns_in(chart.width, &widths);
     let mut first = 0;
-    for number in 0..view.bands(columns) {
-        let band = view.band(number, columns);
-        first = first_left(rows, first, band.from);
+    for number in 0..chart.view.bands(columns) {
+        let band = chart.view.band(number, columns);
+        first = first_left(chart.rows, first, band.from);
         write_gap(number, out)?;
-        write_band(rows, first, view, &band, &widths, labels, out)?;
+        write_band(chart, first, &band, &widths, out)?;
     }
     Ok(())
 }
@@ -83,179 +87,57 @@ fn write_gap<W: Write>(number: u32, out: &mut W) -> io::Result<()>
     out.write_all(b"\n")
 }
 
-/// Writes a band: its ruler, and its rows. None before `first` stands in it.
+/// Writes a band: its ruler, its rows, and why some of them end. None before `first` stands in it.
 #[tactic(auto, unfolding(crate::specs::Text::band_text))]
 fn write_band<W: Write>(
-    rows: &[Row],
+    chart: &TextChart<'_>,
     first: usize,
-    view: &View,
     band: &Band,
     widths: &Widths,
-    labels: &Labels<'_>,
     out: &mut W,
-) -> io::Result<()>
-    ensures { OnOk result (AreByFetch rows.now → AreOver rows.now first band.now.from
-        → Appends (W.contents out.old) (W.contents out.new)
-        (band_text widths.now (marks_of labels.now) view.now rows.now band.now)) }
-{
-    write_ruler(band, widths, out)?;
-    write_rows(rows, first, view, band, widths, labels, out)
-}
-
-/// The number of every tenth event, which begins over its column.
-#[tactic(auto, unfolding(crate::specs::Text::ruler_text))]
-fn write_ruler<W: Write>(band: &Band, widths: &Widths, out: &mut W) -> io::Result<()>
-    ensures { OnOk result (Appends (W.contents out.old) (W.contents out.new) (ruler_text band.now widths.now)) }
-{
-    write_spaces(widths.name(), out)?;
-    write_numbers(band, out)?;
-    out.write_all(b"\n")
-}
-
-fn write_numbers<W: Write>(band: &Band, out: &mut W) -> io::Result<()>
-    ensures { OnOk result (Appends (W.contents out.old) (W.contents out.new)
-        (ruler_from band.now.from (places band.now.from band.now.to))) }
-{
-    let mut column = u64::from(band.from);
-    for place in band.from..=band.to {
-        column = write_number(u64::from(place), column, out)?;
-    }
-    Ok(())
-}
-
-/// Writes the number of a place, from its column on, where it is to have one and this column isn't behind that.
-/// Answers the column behind it.
-fn write_number<W: Write>(place: u64, column: u64, out: &mut W) -> io::Result<u64>
-    requires { place < 2 ^ 32 }
-    ensures { IfOk result (λ next. (next ≡ column_behind column place) × Appends (W.contents out.old) (W.contents out.new)
-        (number_over column place)) }
-{
-    if place % COLUMNS_A_NUMBER != 0 || place < column {
-        return Ok(column);
-    }
-    write_spaces((place - column) as usize, out)?;
-    let mut text = ArrayString::<20>::new();
-    push_decimal(&mut text, place);
-    out.write_all(text.as_bytes())?;
-    Ok(place + text.len() as u64)
+) -> io::Result<()> {
+    write_ruler(chart.columns, band, widths, out)?;
+    write_rows(chart, first, band, widths, out)?;
+    write_counters(chart, band, widths, out)?;
+    write_whys(chart, first, band, out)
 }
 
 /// The rows of a band. None before `first` stands in it.
 fn write_rows<W: Write>(
-    rows: &[Row],
+    chart: &TextChart<'_>,
     first: usize,
-    view: &View,
     band: &Band,
     widths: &Widths,
-    labels: &Labels<'_>,
     out: &mut W,
-) -> io::Result<()>
-    ensures { OnOk result (AreByFetch rows.now → AreOver rows.now first band.now.from
-        → Appends (W.contents out.old) (W.contents out.new)
-        (each_from (row_text widths.now (marks_of labels.now) view.now band.now) 0 rows.now)) }
-{
-    let shown = view.within(band);
-    for number in first..rows.len() {
-        let row = &rows[number];
+) -> io::Result<()> {
+    let shown = chart.view.within(band);
+    for number in first..chart.rows.len() {
+        let row = &chart.rows[number];
         if row.fetched > band.to {
             return Ok(());
         }
-        write_row(row, number, &shown, band, widths, labels, out)?;
+        write_row(chart, number, &shown, band, widths, out)?;
     }
     Ok(())
 }
 
 /// Writes the line of a row with this number, where something of it is shown.
 fn write_row<W: Write>(
-    row: &Row,
+    chart: &TextChart<'_>,
     number: usize,
     shown: &View,
     band: &Band,
     widths: &Widths,
-    labels: &Labels<'_>,
     out: &mut W,
-) -> io::Result<()>
-    ensures { OnOk result (Appends (W.contents out.old) (W.contents out.new)
-        (if shows shown.now row.now then line_text widths.now (marks_of labels.now) band.now number row.now else [])) }
-{
+) -> io::Result<()> {
+    let row = &chart.rows[number];
     if shown.shows(row) {
-        return write_line(row, number, band, widths, labels, out);
-    }
-    out.write_all(b"")
-}
-
-/// Writes the line of a row with this number.
-#[tactic(auto, unfolding(crate::specs::Text::line_text))]
-fn write_line<W: Write>(
-    row: &Row,
-    number: usize,
-    band: &Band,
-    widths: &Widths,
-    labels: &Labels<'_>,
-    out: &mut W,
-) -> io::Result<()>
-    ensures { OnOk result (Appends (W.contents out.old) (W.contents out.new)
-        (line_text widths.now (marks_of labels.now) band.now number row.now)) }
-{
-    let named = Named {
-        labels,
-        form: Form::Word,
-    };
-    widths.write_name(row, number, named, out)?;
-    write_cells(row, band, out)?;
-    write_remark(row, band, out)
-}
-
-/// What stands in the columns of a row, as far as something does.
-fn write_cells<W: Write>(row: &Row, band: &Band, out: &mut W) -> io::Result<()>
-    ensures { OnOk result (Appends (W.contents out.old) (W.contents out.new) (cells_text row.now band.now)) }
-{
-    for place in band.from..=band.last_column(row) {
-        write_letter(row, place, out)?;
-    }
-    Ok(())
-}
-
-/// Writes what stands in a row under the event at this place.
-fn write_letter<W: Write>(row: &Row, place: u32, out: &mut W) -> io::Result<()>
-    ensures { OnOk result (Appends (W.contents out.old) (W.contents out.new) (letter_at row.now place ∷ [])) }
-{
-    let letter = row.cell(place).letter();
-    out.write_all(&[letter])
-}
-
-/// Behind a row that was squashed in this band the number of the instruction that squashed it, and
-/// behind a load that was replayed in it a word; and the end of the line.
-#[tactic(auto, unfolding(crate::specs::Text::remark_text))]
-fn write_remark<W: Write>(row: &Row, band: &Band, out: &mut W) -> io::Result<()>
-    ensures { OnOk result (Appends (W.contents out.old) (W.contents out.new) (remark_text row.now band.now)) }
-{
-    write_by(row, band, out)?;
-    write_replayed(row, band, out)?;
-    out.write_all(b"\n")
-}
-
-fn write_by<W: Write>(row: &Row, band: &Band, out: &mut W) -> io::Result<()>
-    ensures { OnOk result (Appends (W.contents out.old) (W.contents out.new) (by_text band.now row.now.squashed)) }
-{
-    let Some(squash) = row.squashed else {
-        return out.write_all(b"");
-    };
-    if !band.has(Some(squash.place)) {
-        return out.write_all(b"");
-    }
-    let mut text = ArrayString::<14>::new();
-    text.push_str(" by ");
-    push_decimal(&mut text, squash.by);
-    out.write_all(text.as_bytes())
-}
-
-fn write_replayed<W: Write>(row: &Row, band: &Band, out: &mut W) -> io::Result<()>
-    ensures { OnOk result (Appends (W.contents out.old) (W.contents out.new) (replayed_text band.now row.now)) }
-{
-    let is_said = row.replayed && band.has(row.retired);
-    if is_said {
-        return out.write_all(b" replayed");
+        let named = Named {
+            labels: &chart.labels,
+            form: Form::Word,
+            registers: chart.registers,
+        };
+        return write_line(row, number, band, widths, named, out);
     }
     out.write_all(b"")
 }
