@@ -1,7 +1,7 @@
 -- A core that follows the events of a legal history, and the numbers that are read behind each.
-use Rattle.std.specs.Prelude.{◌≡◌, ℕ, zero, suc, ◌+◌, ◌-◌, ◌<◌, ◌≤◌, min, true, ◌&&◌, nat_le, List, [], ◌∷◌, ◌++◌, length, reverse}
+use Rattle.std.specs.Prelude.{◌≡◌, ℕ, zero, suc, ◌+◌, ◌-◌, ◌<◌, ◌≤◌, min, true, nat_le, List, [], ◌∷◌, ◌++◌, length, reverse}
 use Rattle.std.specs.Prelude.{take, drop, None, slice_index_or}
-use Rattle.std.proofs.Common.{◌∙◌, get_or, refl, sym, ap, subst, arith, inl, inr, length-append}
+use Rattle.std.proofs.Common.{◌∙◌, refl, sym, ap, subst, arith, inl, inr, length-append}
 use Rattle.std.proofs.lemmas.Bool.{Decides.nat_tests, cases_lt}
 use Rattle.std.proofs.lemmas.List.{reverse-append, take_more, take-append-drop, get_or_default}
 use Rattle.numbers.specs.Sizes.{are_core_sizes, most_events}

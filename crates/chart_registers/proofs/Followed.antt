@@ -4,7 +4,7 @@ use Rattle.std.specs.Prelude.{slice_index_or}
 use Rattle.std.proofs.Common.{◌∙◌, sym, ap, subst, arith}
 use Rattle.std.proofs.{lemmas.Bool.Decides.nat_tests}
 use Rattle.std.proofs.lemmas.List.{reverse-append, take_more, take-append-drop}
-use Rattle.numbers.specs.Sizes.{most_events, most_registers}
+use Rattle.numbers.specs.Sizes.{most_registers}
 use Rattle.events.specs.declared.event.Event.{Event}
 use Rattle.smt_model.specs.{Rules.is_legal, Rules.refused, Setup.Setup, Setup.is_accepted, Setup.registers_of}
 use Rattle.core_state.specs.View.{CoreView, grown}

@@ -1,5 +1,5 @@
 -- What an instruction finds in a core before it is renamed is what the history says behind its rename.
-use Rattle.std.specs.Prelude.{◌≡◌, ◌≢◌, ℕ, ◌<◌, ◌≤◌, Bool, true, false, ◌==◌, List, [], ◌∷◌, Option, Some, None}
+use Rattle.std.specs.Prelude.{◌≡◌, ℕ, ◌<◌, ◌≤◌, true, false, ◌==◌, List, [], ◌∷◌, Option, Some, None}
 use Rattle.std.proofs.Common.{◌∙◌, refl, sym, ap, subst, inl, inr, arith}
 use Rattle.std.proofs.{lemmas.Bool.cases_Bool, lemmas.Bool.Decides.nat_tests}
 use Rattle.rv_instr.specs.declared.op.Op.{Op}
@@ -10,14 +10,12 @@ use Rattle.smt_model.specs.Fates.{Fetched, fate, fetching, is_in_flight, is_of, 
 use Rattle.smt_model.specs.{Flights.in_rename}
 use Rattle.smt_model.specs.Registers.{holder, mapped, source, source_register}
 use Rattle.smt_model.proofs.{Allowed.rename_allowed, Registers.Claims.IsRegister, Fates.Numbers.first_of_hart}
-use Rattle.smt_model.proofs.Fates.Numbers.{is_of-kept, known_below}
-use Rattle.smt_model.proofs.Fates.Moves.{rename_was}
 use Rattle.smt_laws.proofs.Registers.Below.{first_source-below, second_source-below}
 use Rattle.smt_laws.proofs.{Fates.Choosing.hart_there, Registers.Held.holder-Rename_other, Registers.Reading.seen-held}
 use Rattle.smt_laws.proofs.Steps.RenameMap.{mapped_claimed, not_taken, now-Rename, seen-Rename}
 use Rattle.core_state.specs.View.{CoreView}
 use Rattle.chart_registers.specs.declared.registers.{Destination.Destination, Registers.Registers, Source.Source}
-use Rattle.chart_registers.specs.Registers.{destination_by, found_by, registers_by, second_by, source_by}
+use Rattle.chart_registers.specs.Registers.{destination_by, found_by, second_by, source_by}
 use Rattle.chart_registers.specs.Finding.{NoneIsDecoded, held_source, other_source}
 
 module _ (setup : Setup) (past : List Event) (legal : is_legal setup past) (actor n : ℕ) (given : Option ℕ)

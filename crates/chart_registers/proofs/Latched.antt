@@ -1,7 +1,7 @@
 -- The oldest of a rename latch.
 use Rattle.std.specs.Prelude.{◌≡◌, ℕ, ◌<◌, List, [], ◌∷◌, map, Option, Some, None, IfSome, IfNone, slice_get, slice_index_or, length}
 use Rattle.std.specs.List.{AllByRecursion}
-use Rattle.std.proofs.Common.{◌∙◌, refl, sym, ap, subst, arith}
+use Rattle.std.proofs.Common.{refl, sym, ap, subst, arith}
 use Rattle.smt_model.specs.{Basics.first, Flights.in_rename, Picture.picture}
 use Rattle.core_parts.specs.Agree.{HartAgrees, IsSlot, PartsAgree}
 use Rattle.core_parts.specs.{declared.slot.Slot.Slot, declared.hart.HartState.HartState}

@@ -1,12 +1,12 @@
 -- The tables behind one more event.
-use Rattle.std.specs.Prelude.{◌≡◌, ◌≢◌, ℕ, zero, suc, ◌+◌, ◌<◌, ◌≤◌, Bool, true, false, ◌==◌, List, [], ◌∷◌, ◌++◌}
+use Rattle.std.specs.Prelude.{◌≡◌, ◌≢◌, ℕ, zero, suc, ◌<◌, ◌≤◌, true, false, ◌==◌, List, [], ◌∷◌, ◌++◌}
 use Rattle.std.specs.Prelude.{length, set, slice_index_or, IfSome, Option, Some, None}
 use Rattle.std.proofs.Common.{◌∙◌, refl, sym, ap, subst, inl, inr, arith, length-append}
 use Rattle.std.proofs.lemmas.Bool.{Decides.nat_tests, cases_eq, cases_lt}
 use Rattle.std.proofs.lemmas.List.{length-set, get_or-set_same, get_or-set_other}
 use Rattle.events.specs.declared.event.Event.{Event}
 use Rattle.events.specs.declared.event.Event.TheVariants.{Fetch, Decode, Rename, Issue, Complete, Drop, Retire, Refetch}
-use Rattle.smt_model.specs.{Setup.Setup, Setup.registers_of, Rules.is_legal, Rules.refused, Fates.fetches}
+use Rattle.smt_model.specs.{Setup.Setup, Rules.is_legal, Rules.refused, Fates.fetches}
 use Rattle.smt_model.specs.Registers.{holder}
 use Rattle.smt_model.proofs.Fates.{Numbers.known_below, Moves.rename_was}
 use Rattle.smt_laws.proofs.{Registers.Held.holder-Rename_other, Registers.Held.holder-Rename_own, Registers.Namings.taken}

@@ -107,10 +107,23 @@ fn are(row: &Row, counters: &Counters) -> bool {
     counters.chosen == row.chosen
         && counters.queue == waiting
         && counters.free == row.free
-        && counters.icount[..2] == row.icount
-        && counters.in_flight[..2] == row.in_flight
-        && counters.icount[2..].iter().all(|count| *count == 0)
-        && counters.in_flight[2..].iter().all(|count| *count == 0)
+        && are_of(&counters.icount, row.icount)
+        && are_of(&counters.in_flight, row.in_flight)
+}
+
+/// Whether these are the numbers of harts 0 and 1, and 0 for all others.
+fn are_of(counts: &[u32], two: [u32; 2]) -> bool {
+    for (hart, count) in counts.iter().enumerate() {
+        let wanted = match hart {
+            0 => two[0],
+            1 => two[1],
+            _ => 0,
+        };
+        if *count != wanted {
+            return false;
+        }
+    }
+    counts.len() == 16
 }
 
 /// The numbers behind the events from one place to another.

@@ -14,61 +14,103 @@ struct Row {
     registers: Option<Registers>,
 }
 
-const fn destination(register: u8, physical: u16) -> Option<Destination> {
-    Some(Destination { register, physical })
-}
-
-const fn source(register: u8, physical: u16, by: Option<u32>) -> Option<Source> {
-    Some(Source {
-        register,
-        physical,
-        by,
-    })
-}
-
-const fn found(
-    destination: Option<Destination>,
-    first: Option<Source>,
-    second: Option<Source>,
-) -> Option<Registers> {
-    Some(Registers {
-        destination,
-        sources: [first, second],
-    })
-}
-
 static ROWS: [Row; 12] = [
     Row {
         instruction: "lui x6,0x80001",
         seq: 0,
-        registers: found(destination(6, 62), None, None),
+        registers: Some(Registers {
+            destination: Some(Destination {
+                register: 6,
+                physical: 62,
+            }),
+            sources: [None, None],
+        }),
     },
     // x10 of hart 0 and of hart 1, as it is from the start.
     Row {
         instruction: "bne x10,x0,0x80000014",
         seq: 2,
-        registers: found(None, source(10, 9, None), None),
+        registers: Some(Registers {
+            destination: None,
+            sources: [
+                Some(Source {
+                    register: 10,
+                    physical: 9,
+                    by: None,
+                }),
+                None,
+            ],
+        }),
     },
     Row {
         instruction: "bne x10,x0,0x80000014 of hart 1",
         seq: 3,
-        registers: found(None, source(10, 40, None), None),
+        registers: Some(Registers {
+            destination: None,
+            sources: [
+                Some(Source {
+                    register: 10,
+                    physical: 40,
+                    by: None,
+                }),
+                None,
+            ],
+        }),
     },
     Row {
         instruction: "lw x5,0(x6)",
         seq: 4,
-        registers: found(destination(5, 63), source(6, 62, Some(0)), None),
+        registers: Some(Registers {
+            destination: Some(Destination {
+                register: 5,
+                physical: 63,
+            }),
+            sources: [
+                Some(Source {
+                    register: 6,
+                    physical: 62,
+                    by: Some(0),
+                }),
+                None,
+            ],
+        }),
     },
     Row {
         instruction: "addi x7,x5,1",
         seq: 6,
-        registers: found(destination(7, 64), source(5, 63, Some(4)), None),
+        registers: Some(Registers {
+            destination: Some(Destination {
+                register: 7,
+                physical: 64,
+            }),
+            sources: [
+                Some(Source {
+                    register: 5,
+                    physical: 63,
+                    by: Some(4),
+                }),
+                None,
+            ],
+        }),
     },
-    // It was squashed behind its rename, and has no other registers for that.
+    // It was squashed behind its rename, and has its registers for all that.
     Row {
         instruction: "addi x7,x5,1 of hart 1",
         seq: 7,
-        registers: found(destination(7, 67), source(5, 66, Some(5)), None),
+        registers: Some(Registers {
+            destination: Some(Destination {
+                register: 7,
+                physical: 67,
+            }),
+            sources: [
+                Some(Source {
+                    register: 5,
+                    physical: 66,
+                    by: Some(5),
+                }),
+                None,
+            ],
+        }),
     },
     // It was squashed before it was renamed.
     Row {
@@ -80,29 +122,72 @@ static ROWS: [Row; 12] = [
     Row {
         instruction: "addi x5,x0,7",
         seq: 9,
-        registers: found(destination(5, 66), None, None),
-    },
-    // x5 isn't number 5's, which was squashed, nor number 4's, which is hart 0's.
-    Row {
-        instruction: "sw x5,0(x6)",
-        seq: 11,
-        registers: found(None, source(6, 65, Some(1)), source(5, 66, Some(9))),
+        registers: Some(Registers {
+            destination: Some(Destination {
+                register: 5,
+                physical: 66,
+            }),
+            sources: [None, None],
+        }),
     },
     Row {
         instruction: "addi x5,x0,7 of hart 0",
         seq: 10,
         registers: None,
     },
+    // x5 isn't number 5's, which was squashed, nor number 4's, which is hart 0's.
+    Row {
+        instruction: "sw x5,0(x6)",
+        seq: 11,
+        registers: Some(Registers {
+            destination: None,
+            sources: [
+                Some(Source {
+                    register: 6,
+                    physical: 65,
+                    by: Some(1),
+                }),
+                Some(Source {
+                    register: 5,
+                    physical: 66,
+                    by: Some(9),
+                }),
+            ],
+        }),
+    },
     Row {
         instruction: "sw x0,0(x6)",
         seq: 13,
-        registers: found(None, source(6, 65, Some(1)), None),
+        registers: Some(Registers {
+            destination: None,
+            sources: [
+                Some(Source {
+                    register: 6,
+                    physical: 65,
+                    by: Some(1),
+                }),
+                None,
+            ],
+        }),
     },
-    // Number 4 has retired, and what it wrote stands. Number 6, which wrote x7 too, was squashed.
+    // Number 4 has retired, and what it wrote stands.
     Row {
         instruction: "addi x7,x5,1 again",
         seq: 14,
-        registers: found(destination(7, 4), source(5, 63, Some(4)), None),
+        registers: Some(Registers {
+            destination: Some(Destination {
+                register: 7,
+                physical: 4,
+            }),
+            sources: [
+                Some(Source {
+                    register: 5,
+                    physical: 63,
+                    by: Some(4),
+                }),
+                None,
+            ],
+        }),
     },
 ];
 

@@ -1,9 +1,6 @@
-use Rattle.std.specs.Prelude.{◌<◌, ◌∷◌, List, Option, length}
-use Rattle.std.proofs.Common.{◌∙◌, subst, sym}
-use Rattle.events.specs.declared.event.Event.{Event}
+use Rattle.std.specs.Prelude.{◌<◌, List, Option, length}
+use Rattle.std.proofs.Common.{subst, sym}
 use Rattle.chart_registers.specs.declared.registers.Registers.{Registers}
-use Rattle.chart_registers.specs.Registers.{AreRegisters}
-use Rattle.chart_registers.specs.Finding.{AreHolders}
 use Rattle.chart_registers.proofs.Noted.{given_inside, holders_renamed, registers_fetched, renamed_inside}
 use Rattle.chart_registers.proofs.table.note.Goals as goal
 

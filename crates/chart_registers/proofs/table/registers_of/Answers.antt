@@ -1,4 +1,4 @@
-use Rattle.std.proofs.Common.{◌≡◌, ap, reverse, take}
+use Rattle.std.proofs.Common.{ap, reverse, take}
 use Rattle.smt_model.specs.Rules.{is_legal}
 use Rattle.core_state.specs.Setup.{setup_of}
 use Rattle.core_state.specs.View.{CoreView}
