@@ -8,6 +8,7 @@ use Rattle.events.specs.{Event.seq_of, declared.event.Event.Event}
 use Rattle.events.specs.declared.event.Event.TheVariants.{Fetch, Decode, Rename, Issue, Complete}
 use Rattle.events.specs.declared.event.Event.TheVariants.{Drop, Retire, Refetch}
 use Rattle.chart_rows.specs.{declared.row.Row.Row, declared.row.Squash.Squash}
+use Rattle.chart_rows.specs.Causes.{cause_as}
 use Rattle.chart_rows.specs.Moves.{HaveMoved, cut, cuts, moved, row_after}
 use Rattle.chart_rows.specs.Order.{AreByFetch}
 
@@ -46,7 +47,7 @@ after_keeps e place own k row = elim (cases_Bool (seq_of e == k)) [
   | inl its ↦ rw its (moved_keeps e place row)
   | inr other ↦ elim (cases_Bool (cuts e own && nat_lt (seq_of e) k)) [
     | inl squashed ↦
-        rw (other, squashed) (cut_keeps own.hart (record { place = place; by = seq_of e }) row)
+        rw (other, squashed) (cut_keeps own.hart (record { place = place; by = seq_of e; cause = cause_as e own.predicted }) row)
     | inr left ↦ rw (other, left) refl
   ]
 ]

@@ -11,6 +11,7 @@ use Rattle.events.specs.declared.event.Event.TheVariants.{Drop, Retire, Refetch}
 use Rattle.smt_model.specs.{Basics.or_else, Fates.squashes, Fates.mispredicts, Fates.same_hart}
 use Rattle.smt_model.specs.{Fates.squashes_at_retirement}
 use Rattle.chart_rows.specs.{declared.row.Row.Row, declared.row.Squash.Squash}
+use Rattle.chart_rows.specs.Causes.{cause, cause_as, predicted_of}
 use Rattle.chart_rows.specs.Rows.{IsRow, squash, squash_of}
 use Rattle.chart_rows.specs.Moves.{cuts, cut, moved, row_after}
 use Rattle.chart_rows.proofs.Keeping.{or_none, other_row, replay_is, same_hart_is, squashes_is}
@@ -206,11 +207,16 @@ cut_as row by own_hart true here is =
 cut_as row by own_hart false here is =
     rw is (ap (λ (o : Option Squash). record row { squashed = o }) (or_none row.squashed))
 
+-- Why it squashes them is what the row of its own instruction says.
+cause_is : (e : Event) (past : List Event) (own : Row) → IsRow past (seq_of e) own
+    → cause e past ≡ cause_as e own.predicted
+cause_is e past own was = ap (λ o. cause_as e (predicted_of o)) was.instruction
+
 any_other : (e : Event) (past : List Event) (k : ℕ) (own row : Row) → IsRow past (seq_of e) own → IsRow past k row
     → (seq_of e == k) ≡ false → IsRow (e ∷ past) k (row_after e (length past) own k row)
 any_other e past k own row was is other =
-    rw other (subst (IsRow (e ∷ past) k)
-    (cut_as row (record { place = length past; by = seq_of e }) own.hart (cuts e own && nat_lt (seq_of e) k)
+    rw (other, sym (cause_is e past own was)) (subst (IsRow (e ∷ past) k)
+    (cut_as row (record { place = length past; by = seq_of e; cause = cause e past }) own.hart (cuts e own && nat_lt (seq_of e) k)
     (squashes e past k) (squashes_is e past k own row other was is)) (other_row e past k row other is))
 
 any_own : (e : Event) (past : List Event) (k : ℕ) (own row : Row) → FetchesNone e → seq_of e ≡ k → IsRow past k row

@@ -22,9 +22,14 @@ place_of kinds.Refetch row = row.refetched
 abbrev pub HasNone : Row → ℕ → Type 0
 HasNone row place = (kind : EventKind) → place_of kind row ≢ Some place
 
--- Nor was it squashed there.
+-- The event at this place squashed it, and is of this instruction.
+abbrev pub IsSquashedBy : ℕ → ℕ → Option AnySquash → Type 0
+IsSquashedBy place by None = ⊥
+IsSquashedBy place by (Some squash) = (squash.place ≡ place) × (squash.by ≡ by)
+
+-- None squashed it there.
 abbrev pub IsUnsquashed : Row → ℕ → Type 0
-IsUnsquashed row place = (by : ℕ) → row.squashed ≢ Some (record { place = place; by = by })
+IsUnsquashed row place = (by : ℕ) → IsSquashedBy place by row.squashed → ⊥
 
 abbrev pub is_over : Option ℕ → ℕ → Bool
 is_over None place = false
@@ -40,8 +45,7 @@ is_live row place =
 -- is live.
 abbrev pub IsCellOf : Row → ℕ → Cell → Type 0
 IsCellOf row place (Event kind) = place_of kind row ≡ Some place
-IsCellOf row place (Squash by) = HasNone row place
-    × (row.squashed ≡ Some (record { place = place; by = by }))
+IsCellOf row place (Squash by) = HasNone row place × IsSquashedBy place by row.squashed
 IsCellOf row place Live = HasNone row place × IsUnsquashed row place × (is_live row place ≡ true)
 IsCellOf row place Blank = HasNone row place × IsUnsquashed row place × (is_live row place ≡ false)
 

@@ -6,7 +6,8 @@ use Rattle.events.specs.declared.event.Event.TheVariants.{Fetch, Decode, Rename,
 use Rattle.events.specs.declared.event.Event.TheVariants.{Drop, Retire, Refetch}
 use Rattle.smt_model.specs.{Words.op_of_word, Basics.or_else, Basics.same_number, Kinds.kind_of}
 use Rattle.smt_model.specs.{Kinds.is_loading, Nexts.is_last, Nexts.redirect_pc}
-use Rattle.chart_rows.specs.{declared.row.Row.Row, declared.row.Squash.Squash}
+use Rattle.chart_rows.specs.{declared.row.Row.Row, declared.row.Squash.Squash, Causes.cause_as}
+use Rattle.chart_rows.specs.declared.cause.Cause.TheVariants.{Refetched}
 
 -- The instruction of the row is replayed as it retires with this effect.
 abbrev pub is_replay : Row → Effect → Bool
@@ -30,7 +31,7 @@ moved (Drop actor seq) place row = record row { dropped = Some place }
 moved (Retire actor seq effect) place row =
     record row { retired = Some place; replayed = is_replay row effect }
 moved (Refetch actor seq) place row =
-    gone (record { place = place; by = seq }) (record row { refetched = Some place })
+    gone (record { place = place; by = seq; cause = Refetched }) (record row { refetched = Some place })
 
 -- The event squashes the younger instructions of its own one's hart.
 abbrev pub cuts : Event → Row → Bool
@@ -48,7 +49,7 @@ abbrev pub row_after : Event → ℕ → Row → ℕ → Row → Row
 row_after e place own k row =
     if seq_of e == k then moved e place row
     else (if cuts e own && nat_lt (seq_of e) k
-    then cut own.hart (record { place = place; by = seq_of e }) row else row)
+    then cut own.hart (record { place = place; by = seq_of e; cause = cause_as e own.predicted }) row else row)
 
 -- The rows behind an event, which fetches none.
 pub record HaveMoved (e : Event) (place : ℕ) (old new : List Row) : Type 0 where

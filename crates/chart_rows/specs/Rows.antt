@@ -9,7 +9,7 @@ use Rattle.events.specs.declared.kind.EventKind.TheVariants as kinds
 use Rattle.smt_model.specs.{Basics.or_else, Rules.is_legal, Setup.Setup}
 use Rattle.smt_model.specs.Fates.{fetches, fetching, completion, squashes, is_replayed, fate, is}
 use Rattle.smt_model.specs.Fates.{Squashed}
-use Rattle.chart_rows.specs.{declared.row.Row.Row, declared.row.Squash.Squash}
+use Rattle.chart_rows.specs.{declared.row.Row.Row, declared.row.Squash.Squash, Causes.cause}
 
 -- The event is of this kind, and of instruction s.
 abbrev pub is_event : EventKind → Event → ℕ → Bool
@@ -20,12 +20,12 @@ abbrev pub place : EventKind → List Event → ℕ → Option ℕ
 place kind [] s = None
 place kind (e ∷ past) s = if is_event kind e s then Some (length past) else place kind past s
 
--- The place of the first event that squashed instruction s, and the instruction which that event is
--- of: a mispredicted one, one that ended or stopped its hart, a load that was replayed, or one that
+-- The place of the first event that squashed instruction s, the instruction which that event is of, and why
+-- it did: a mispredicted one, one that ended or stopped its hart, a load that was replayed, or one that
 -- is fetched again, which may be s itself.
 abbrev pub squash_of : Event → List Event → ℕ → Option Squash
 squash_of e past s =
-    if squashes e past s then Some (record { place = length past; by = seq_of e }) else None
+    if squashes e past s then Some (record { place = length past; by = seq_of e; cause = cause e past }) else None
 
 abbrev pub squash : List Event → ℕ → Option Squash
 squash [] s = None

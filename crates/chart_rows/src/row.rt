@@ -1,6 +1,8 @@
 ghost use Rattle.std.specs.Prelude.{◌≡◌, false};
 ghost use Rattle.chart_rows.specs.Moves.{is_replay, moved, cuts, cut, gone};
+ghost use Rattle.chart_rows.specs.Causes.{cause_as};
 
+use crate::cause::{Cause, cause_as};
 use events::{Effect, Event};
 use numbers::Seq;
 use rv_decode::decode_op;
@@ -12,6 +14,7 @@ pub struct Squash {
     pub place: u32,
     /// The number of the instruction which that event is of.
     pub by: Seq,
+    pub cause: Cause,
 }
 
 /// An instruction of a history, and the places of its events: the first event of the history is at
@@ -101,7 +104,11 @@ impl Row {
             }
             Event::Refetch { seq, .. } => {
                 row.refetched = Some(place);
-                row = row.gone(Squash { place, by: seq });
+                row = row.gone(Squash {
+                    place,
+                    by: seq,
+                    cause: Cause::Refetched,
+                });
             }
         }
         row
@@ -121,6 +128,13 @@ impl Row {
             Event::Refetch { .. } => true,
             _ => false,
         }
+    }
+
+    /// Why an event of its instruction squashes the younger ones of its hart, where it does.
+    pub fn cause(self, event: &Event) -> Cause
+        ensures { result ≡ cause_as event.now self.predicted }
+    {
+        cause_as(event, self.predicted)
     }
 
     /// The row behind a squash of the younger ones of `hart`, of which it may be one.

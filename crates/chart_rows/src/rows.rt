@@ -43,7 +43,8 @@ fn move_on(rows: &mut [Row], event: &Event, place: u32)
     let own = rows[by as usize];
     rows[by as usize] = own.moved(event, place);
     if own.cuts(event) {
-        cut_from(rows, by as usize + 1, own.hart, Squash { place, by });
+        let cause = own.cause(event);
+        cut_from(rows, by as usize + 1, own.hart, Squash { place, by, cause });
     }
 }
 

@@ -10,6 +10,8 @@ use Rattle.events.specs.declared.event.Event.TheVariants.{Drop, Retire, Refetch}
 use Rattle.events.specs.declared.kind.EventKind.TheVariants as kinds
 use Rattle.smt_model.specs.{Basics.holds_of, Basics.or_else, Nexts.redirect_pc, Fates.squashes, Fates.completion}
 use Rattle.chart_rows.specs.Rows.{place, squash, squash_of}
+use Rattle.chart_rows.specs.Causes.{cause}
+use Rattle.chart_rows.specs.declared.cause.Cause.{Cause}
 use Rattle.chart_rows.specs.declared.row.Squash.{Squash as AnySquash}
 use Rattle.history_counts.specs.Numbers.{squasher}
 use Rattle.history_counts.specs.OfRows.{goes_elsewhere}
@@ -108,23 +110,23 @@ abbrev InsideSquash : List Event → Option AnySquash → Type 0
 InsideSquash past None = Unit {0}
 InsideSquash past (Some q) = q.place < length past
 
-inside_more : (e : Event) (past : List Event) (by : ℕ) (o : Option AnySquash) (b : Bool) → InsideSquash past o
-    → InsideSquash (e ∷ past) (or_else o (if b then Some (record { place = length past; by = by }) else None))
-inside_more e past by None true inside = omega arith
-inside_more e past by None false inside = tt
-inside_more e past by (Some q) b inside = omega arith
+inside_more : (e : Event) (past : List Event) (by : ℕ) (why : Cause) (o : Option AnySquash) (b : Bool) → InsideSquash past o
+    → InsideSquash (e ∷ past) (or_else o (if b then Some (record { place = length past; by = by; cause = why }) else None))
+inside_more e past by why None true inside = omega arith
+inside_more e past by why None false inside = tt
+inside_more e past by why (Some q) b inside = omega arith
 
 inside-squash : (past : List Event) (s : ℕ) → InsideSquash past (squash past s)
 inside-squash [] s = tt
-inside-squash (e ∷ past) s = inside_more e past (seq_of e) (squash past s) (squashes e past s) (inside-squash past s)
+inside-squash (e ∷ past) s = inside_more e past (seq_of e) (cause e past) (squash past s) (squashes e past s) (inside-squash past s)
 
-one_more : (e : Event) (past : List Event) (by : ℕ) (o : Option AnySquash) (w : Option Event) (b : Bool)
+one_more : (e : Event) (past : List Event) (by : ℕ) (why : Cause) (o : Option AnySquash) (w : Option Event) (b : Bool)
     → InsideSquash past o → w ≡ at_squash (reverse past) o
     → or_else w (if b then Some e else None)
-    ≡ at_squash (reverse (e ∷ past)) (or_else o (if b then Some (record { place = length past; by = by }) else None))
-one_more e past by None w true inside is = rw is (sym (newest e past))
-one_more e past by None w false inside is = rw is refl
-one_more e past by (Some q) w b inside is =
+    ≡ at_squash (reverse (e ∷ past)) (or_else o (if b then Some (record { place = length past; by = by; cause = why }) else None))
+one_more e past by why None w true inside is = rw is (sym (newest e past))
+one_more e past by why None w false inside is = rw is refl
+one_more e past by why (Some q) w b inside is =
     let many = length-reverse past in
     let there : w ≡ Some (get_or (reverse past) q.place e) =
     is ∙ slice_get-get_or (reverse past) q.place e (omega arith) in
@@ -135,5 +137,5 @@ one_more e past by (Some q) w b inside is =
 pub squasher_is : (past : List Event) (s : ℕ) → squasher past s ≡ at_squash (reverse past) (squash past s)
 squasher_is [] s = refl
 squasher_is (e ∷ past) s =
-    one_more e past (seq_of e) (squash past s) (squasher past s) (squashes e past s) (inside-squash past s)
+    one_more e past (seq_of e) (cause e past) (squash past s) (squasher past s) (squashes e past s) (inside-squash past s)
     (squasher_is past s)
