@@ -4,6 +4,7 @@ use crate::rows::holds;
 use arrayvec::ArrayVec;
 use elf_image::Image;
 use outcomes::{Extent, Outcomes, find_outcomes};
+use reductions::Without;
 use smt_model::Status;
 use std::alloc::Global;
 use test_support::{file_of, image_of, writable_file_of};
@@ -198,7 +199,17 @@ fn watching_nothing() -> Watch {
 /// The outcomes of a program of two harts, of which this register is watched.
 fn of_two_harts(words: &[u32], register: u8, alloc: Global) -> Option<Outcomes> {
     let image = image_with(words, alloc)?;
-    find_outcomes(&image, 2, &watching(register), 10_000, &(), &(), alloc).ok()
+    find_outcomes(
+        &image,
+        2,
+        &watching(register),
+        10_000,
+        Without::none(),
+        &(),
+        &(),
+        alloc,
+    )
+    .ok()
 }
 
 /// Whether all states were looked at, and from each of them some order leads on to an end.
@@ -237,7 +248,17 @@ fn is_called(found: &Outcomes, index: usize, row: (u32, u32)) -> bool {
 /// The outcomes of the two calls, for this budget.
 fn called(budget: u32, alloc: Global) -> Option<Outcomes> {
     let image = image_with(&CALLS, alloc)?;
-    find_outcomes(&image, 2, &watching_nothing(), budget, &(), &(), alloc).ok()
+    find_outcomes(
+        &image,
+        2,
+        &watching_nothing(),
+        budget,
+        Without::none(),
+        &(),
+        &(),
+        alloc,
+    )
+    .ok()
 }
 
 /// Whether each outcome is that of some row of `CALLED`.
@@ -300,7 +321,16 @@ fn stops(words: &[u32], cause: u8, alloc: Global) -> bool {
     let Some(image) = image_with(words, alloc) else {
         return false;
     };
-    match find_outcomes(&image, 1, &watching_nothing(), 10, &(), &(), alloc) {
+    match find_outcomes(
+        &image,
+        1,
+        &watching_nothing(),
+        10,
+        Without::none(),
+        &(),
+        &(),
+        alloc,
+    ) {
         Ok(found) => found.count() == 1 && is_stopped(&found, cause),
         Err(_) => false,
     }
@@ -345,7 +375,16 @@ fn a_hart_writes_a_jump_of_another(rt: HostRuntime) {
     let Some(image) = image_of(file.as_slice(), 65536, rt.alloc()) else {
         return holds(&rt, "image", false);
     };
-    match find_outcomes(&image, 2, &watching(10), 100, &(), &(), rt.alloc()) {
+    match find_outcomes(
+        &image,
+        2,
+        &watching(10),
+        100,
+        Without::none(),
+        &(),
+        &(),
+        rt.alloc(),
+    ) {
         Ok(found) => {
             let behind = [Status::Stopped(3), Status::Stopped(1)];
             let before = [Status::Stopped(3), Status::Stopped(3)];

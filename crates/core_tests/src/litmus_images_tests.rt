@@ -14,6 +14,7 @@ use litmus_tests::{
     Width,
 };
 use outcomes::{Outcomes, find_outcomes};
+use reductions::Without;
 use rv_instr::{BranchOp, Instr, LoadOp, RegisterOp, StoreOp};
 use std::alloc::{AllocError, Global};
 
@@ -226,7 +227,17 @@ fn found_of(test: &LitmusTest, alloc: Global) -> Option<Outcomes>
 {
     let image = image_of(test, alloc).ok()?;
     let watch = watch_of(test);
-    find_outcomes(&image, harts_of(test), &watch, 100_000, &(), &(), alloc).ok()
+    find_outcomes(
+        &image,
+        harts_of(test),
+        &watch,
+        100_000,
+        Without::none(),
+        &(),
+        &(),
+        alloc,
+    )
+    .ok()
 }
 
 #[test]

@@ -4,6 +4,7 @@ use crate::rows::holds;
 use arrayvec::ArrayVec;
 use elf_image::Image;
 use outcomes::{Extent, Outcomes, OutcomesRefused, Until, find_outcomes};
+use reductions::Without;
 use smt_model::Status;
 use std::alloc::Global;
 use test_support::{file_of, image_of};
@@ -49,7 +50,7 @@ fn watching(word: u32) -> Watch {
 fn counted(budget: u32, alloc: Global) -> Option<Result<Outcomes, OutcomesRefused>> {
     let image = image_with(&COUNTER, alloc)?;
     let watch = watching(0x8000_1000);
-    Some(find_outcomes(&image, 2, &watch, budget, &(), &(), alloc))
+    Some(find_outcomes(&image, 2, &watch, budget, Without::none(), &(), &(), alloc))
 }
 
 /// Whether an outcome is that of a row.
@@ -125,6 +126,7 @@ fn a_word_that_nobody_writes(rt: HostRuntime) {
         2,
         &watching(0x8000_1004),
         1000,
+        Without::none(),
         &(),
         &(),
         rt.alloc(),
@@ -169,7 +171,16 @@ fn more_states_than_the_budget(rt: HostRuntime) {
 #[test]
 fn a_hart_that_goes_round(rt: HostRuntime) {
     let found = match image_with(&ROUND, rt.alloc()) {
-        Some(image) => find_outcomes(&image, 1, &watching(0x8000_1000), 10, &(), &(), rt.alloc()),
+        Some(image) => find_outcomes(
+            &image,
+            1,
+            &watching(0x8000_1000),
+            10,
+            Without::none(),
+            &(),
+            &(),
+            rt.alloc(),
+        ),
         None => Err(OutcomesRefused::Memory),
     };
     match found {
@@ -223,7 +234,16 @@ fn has_swapped(found: &Outcomes, index: usize, row: [u32; 2]) -> bool {
 #[test]
 fn three_instructions_of_each_of_two_harts(rt: HostRuntime) {
     let found = match image_with(&SWAP, rt.alloc()) {
-        Some(image) => find_outcomes(&image, 2, &watching_swap(), 100, &(), &(), rt.alloc()),
+        Some(image) => find_outcomes(
+            &image,
+            2,
+            &watching_swap(),
+            100,
+            Without::none(),
+            &(),
+            &(),
+            rt.alloc(),
+        ),
         None => Err(OutcomesRefused::Memory),
     };
     match found {
@@ -278,7 +298,16 @@ fn is_of_ten(found: &Outcomes) -> bool {
 #[test]
 fn ten_harts_that_store(rt: HostRuntime) {
     let found = match image_with(&OWN_WORDS, rt.alloc()) {
-        Some(image) => find_outcomes(&image, 10, &watching_the_last(), 1024, &(), &(), rt.alloc()),
+        Some(image) => find_outcomes(
+            &image,
+            10,
+            &watching_the_last(),
+            1024,
+            Without::none(),
+            &(),
+            &(),
+            rt.alloc(),
+        ),
         None => Err(OutcomesRefused::Memory),
     };
     match found {
@@ -327,7 +356,17 @@ fn written(flags: u8, alloc: Global) -> Option<Outcomes> {
         *byte = flags;
     }
     let image = image_of(file.as_slice(), 65536, alloc)?;
-    find_outcomes(&image, 2, &watching_written(), 100, &(), &(), alloc).ok()
+    find_outcomes(
+        &image,
+        2,
+        &watching_written(),
+        100,
+        Without::none(),
+        &(),
+        &(),
+        alloc,
+    )
+    .ok()
 }
 
 /// Whether in an outcome the store was made, both harts were stopped by EBREAK, and x10 of hart 1 is this.

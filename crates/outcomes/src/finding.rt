@@ -23,6 +23,7 @@ use crate::until::Until;
 use condensed_machine::{Begun, CondensedMachine, State, Way};
 use elf_image::Image;
 use live_registers::Targets;
+use reductions::Without;
 use sc_machine::PlainRefused;
 use searches::{Explored, Onlooker, Unmade, explore};
 use std::alloc::{AllocError, Global};
@@ -41,11 +42,38 @@ const MOST_PASSES: u8 = 64;
 ///
 /// Where there are more states than the budget, the search goes on as far as some ends, and tells what it has found
 /// until then. It ends early with the first outcome that `until` asks for.
+///
+/// The reductions that it is to be without are left out. They change which states are visited, and none of this.
 pub fn find_outcomes<O: Onlooker, U: Until>(
     image: &Image,
     harts: u8,
     watch: &Watch,
     budget: u32,
+    without: Without,
+    onlooker: &O,
+    until: &U,
+    alloc: Global,
+) -> Result<Outcomes, OutcomesRefused>
+    ensures found { IfOk result (IsListing image.now harts watch.now budget) }
+    ensures once { IfOk result IsOnce }
+    ensures asked { IfOk result (IsAskedFor (U.Asks until.now)) }
+    ensures present { OnOk result (AreThere harts watch.now × AreWords image.now watch.now) }
+    ensures refused { IfErr result (IsRefusedFor image.now harts watch.now) }
+{
+    if without.jumps {
+        return find_anywhere(image, harts, watch, budget, without, onlooker, until, alloc);
+    }
+    find_in_passes(image, harts, watch, budget, without, onlooker, until, alloc)
+}
+
+/// The outcomes of a program whose harts are taken to jump by registers only where it was seen: in passes, until none
+/// sees another jump.
+fn find_in_passes<O: Onlooker, U: Until>(
+    image: &Image,
+    harts: u8,
+    watch: &Watch,
+    budget: u32,
+    without: Without,
     onlooker: &O,
     until: &U,
     alloc: Global,
@@ -63,7 +91,9 @@ pub fn find_outcomes<O: Onlooker, U: Until>(
         let Ok(seen) = copy_of(&targets, alloc) else {
             return Err(OutcomesRefused::Memory);
         };
-        match find_within(image, harts, watch, budget, onlooker, until, seen, alloc) {
+        match find_within(
+            image, harts, watch, budget, without, onlooker, until, seen, alloc,
+        ) {
             Ok(found) => return Ok(found),
             Err(Unfound::Refused(why)) => return Err(why),
             Err(Unfound::Lacks(jump)) => {
@@ -73,7 +103,7 @@ pub fn find_outcomes<O: Onlooker, U: Until>(
             }
         }
     }
-    find_anywhere(image, harts, watch, budget, onlooker, until, alloc)
+    find_anywhere(image, harts, watch, budget, without, onlooker, until, alloc)
 }
 
 /// The same targets. Errors: want of memory.
@@ -93,6 +123,7 @@ fn find_anywhere<O: Onlooker, U: Until>(
     harts: u8,
     watch: &Watch,
     budget: u32,
+    without: Without,
     onlooker: &O,
     until: &U,
     alloc: Global,
@@ -105,7 +136,7 @@ fn find_anywhere<O: Onlooker, U: Until>(
 {
     let anywhere = Targets::anywhere(alloc);
     match find_within(
-        image, harts, watch, budget, onlooker, until, anywhere, alloc,
+        image, harts, watch, budget, without, onlooker, until, anywhere, alloc,
     ) {
         Ok(found) => Ok(found),
         Err(Unfound::Refused(why)) => Err(why),
@@ -119,6 +150,7 @@ fn find_within<O: Onlooker, U: Until>(
     harts: u8,
     watch: &Watch,
     budget: u32,
+    without: Without,
     onlooker: &O,
     until: &U,
     targets: Targets,
@@ -130,7 +162,7 @@ fn find_within<O: Onlooker, U: Until>(
     ensures present { OnOk result (AreThere harts watch.now × AreWords image.now watch.now) }
     ensures unfound { IfErr result (IsUnfoundFor image.now harts watch.now targets) }
 {
-    let machine = match new_machine(image, harts, watch, targets, alloc) {
+    let machine = match new_machine(image, harts, watch, targets, without, alloc) {
         Ok(machine) => machine,
         Err(why) => return Err(Unfound::Refused(why)),
     };
@@ -143,6 +175,7 @@ fn new_machine(
     harts: u8,
     watch: &Watch,
     targets: Targets,
+    without: Without,
     alloc: Global,
 ) -> Result<CondensedMachine, OutcomesRefused>
     ensures image { IfOk result (λ machine. machine.program.image ≡ image.now) }
@@ -154,7 +187,14 @@ fn new_machine(
     ensures refused { IfErr result
         (IsRefusedFor image.now harts watch.now) }
 {
-    match CondensedMachine::new(image, harts, watch.registers_watched(), targets, alloc) {
+    match CondensedMachine::new(
+        image,
+        harts,
+        watch.registers_watched(),
+        targets,
+        without,
+        alloc,
+    ) {
         Ok(machine) => Ok(machine),
         Err(PlainRefused::Harts) => Err(OutcomesRefused::Harts),
         Err(PlainRefused::Memory) => Err(OutcomesRefused::Memory),
