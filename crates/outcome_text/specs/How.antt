@@ -4,6 +4,8 @@ use Rattle.std.specs.{Fmt.decimal}
 use Rattle.searches.specs.declared.extent.Extent.{Extent}
 use Rattle.searches.specs.declared.extent.Extent.TheVariants.{Beyond}
 use Rattle.outcomes.specs.{Found.Found}
+use Rattle.reductions.specs.{Names.name_of, declared.reduction.Reduction.Reduction}
+use Rattle.reductions.specs.declared.reduction.Reduction.TheVariants.{Conditional, Jumps}
 use Rattle.outcome_text.specs.declared.how.{StateCount.StateCount, How.How}
 use Rattle.outcome_text.specs.declared.how.StateCount.TheVariants.{Exactly, MoreThan}
 
@@ -20,18 +22,18 @@ unfoldable pub count_words : StateCount → List ℕ
 count_words (Exactly states) = decimal states
 count_words (MoreThan budget) = codes "more than " ++ decimal budget
 
--- Behind it that of a search which leaves a reduction out, where there is one, with the reduction's name.
-unfoldable pub lead_text : List ℕ → List ℕ
-lead_text name = codes ", without " ++ (name ++ 32 ∷ [])
+-- Behind it, with the reduction's name, that of a search which leaves a reduction out, where there is one.
+unfoldable pub lead_text : Reduction → List ℕ
+lead_text reduction = codes ", without " ++ (name_of reduction ++ 32 ∷ [])
 
-abbrev pub without_text : List ℕ → Option StateCount → List ℕ
-without_text name None = []
-without_text name (Some count) = lead_text name ++ count_words count
+abbrev pub without_text : Reduction → Option StateCount → List ℕ
+without_text reduction None = []
+without_text reduction (Some count) = lead_text reduction ++ count_words count
 
 -- The line; nothing where it isn't asked for.
 unfoldable pub how_line : How → List ℕ
 how_line how = codes "how " ++ (count_words how.states ++ (codes " states"
-    ++ (without_text (codes "RX") how.conditional ++ (without_text (codes "J") how.jumps ++ 10 ∷ []))))
+    ++ (without_text Conditional how.conditional ++ (without_text Jumps how.jumps ++ 10 ∷ []))))
 
 abbrev pub how_text : Option How → List ℕ
 how_text None = []

@@ -1,14 +1,15 @@
 //! The line that says how many states a search has found, and how many more those that leave a reduction out.
 
-ghost use Rattle.std.specs.Prelude.{◌≡◌, ◌≤◌, ◌++◌, length, OnOk};
+ghost use Rattle.std.specs.Prelude.{◌≡◌, OnOk};
 ghost use Rattle.std.specs.Io.KnownBytes.{Appends};
 ghost use Rattle.outcome_text.specs.How.{count_of, count_words, how_line, how_text, lead_text, without_text};
 
 use arrayvec::ArrayString;
 use outcomes::{Extent, Outcomes};
+use reductions::Reduction;
 use std::io;
 use std::io::Write;
-use text_fields::{push_ascii, push_decimal};
+use text_fields::push_decimal;
 
 /// How many states a search has found.
 #[derive(Clone, Copy, Debug, PartialEq, Eq, Drop)]
@@ -58,35 +59,36 @@ fn write_line<W: Write>(how: &How, out: &mut W) -> io::Result<()>
     out.write_all(b"how ")?;
     write_count(how.states, out)?;
     out.write_all(b" states")?;
-    write_without("RX", how.conditional, out)?;
-    write_without("J", how.jumps, out)?;
+    write_without(Reduction::Conditional, how.conditional, out)?;
+    write_without(Reduction::Jumps, how.jumps, out)?;
     out.write_all(b"\n")
 }
 
-/// Writes how many states a search has that leaves the reduction of this name out, where there is one.
-fn write_without<W: Write>(name: &str, count: Option<StateCount>, out: &mut W) -> io::Result<()>
-    requires { length name.now ≤ 32 }
+/// Writes how many states a search has that leaves this reduction out, where there is one.
+fn write_without<W: Write>(
+    reduction: Reduction,
+    count: Option<StateCount>,
+    out: &mut W,
+) -> io::Result<()>
     ensures { OnOk result
-        (Appends (W.contents out.old) (W.contents out.new) (without_text name.now count)) }
+        (Appends (W.contents out.old) (W.contents out.new) (without_text reduction count)) }
 {
     let Some(count) = count else {
         return Ok(());
     };
-    write_lead(name, out)?;
+    write_lead(reduction, out)?;
     write_count(count, out)
 }
 
 /// Writes the words that stand before the number of the search without a reduction.
 #[tactic(auto, unfolding(crate::specs::How::lead_text))]
-fn write_lead<W: Write>(name: &str, out: &mut W) -> io::Result<()>
-    requires { length name.now ≤ 32 }
-    ensures { OnOk result (Appends (W.contents out.old) (W.contents out.new) (lead_text name.now)) }
+fn write_lead<W: Write>(reduction: Reduction, out: &mut W) -> io::Result<()>
+    ensures { OnOk result
+        (Appends (W.contents out.old) (W.contents out.new) (lead_text reduction)) }
 {
-    let mut words = ArrayString::<64>::new();
-    words.push_str(", without ");
-    words.push_str(name);
-    push_ascii(&mut words, b' ');
-    out.write_all(words.as_bytes())
+    out.write_all(b", without ")?;
+    out.write_all(reduction.name().as_bytes())?;
+    out.write_all(b" ")
 }
 
 /// Writes a number of states in words.

@@ -26,6 +26,8 @@ use Rattle.outcome_queries.specs.Watches.{IsOnceBehind, IsWatchedFor, LacksRoom}
 use Rattle.outcome_queries.specs.Harts.{absent_hart, IsHartThere}
 use Rattle.outcome_queries.specs.Lists.{IsRefusedFor as IsMisspelledFor}
 use Rattle.outcome_text.specs.{Listing.outcomes_text, Answers.answer_text, Answers.answer_of}
+use Rattle.outcome_text.specs.{declared.how.How.How}
+use Rattle.plain_commands.specs.How.{IsHowOf}
 use Rattle.sim_inputs.specs.{declared.settings.Settings.Settings}
 use Rattle.sim_inputs.specs.{declared.line.OutcomesCommand.OutcomesCommand}
 use Rattle.command_parts.specs.{declared.refused.Refused.Refused}
@@ -111,10 +113,10 @@ plan_for settings names marks command = record {
   marks = marks;
 }
 
--- What is printed of what was found, with the answer.
-abbrev pub found_text : OutcomesCommand → List Asked → Watch → Option Question → Found → List ℕ
-found_text command all watch question found = outcomes_text (registers_asked all) (memory_asked all) found
-    (is_some (stuck_told found)) command.states (question_text watch question found)
+-- What is printed of what was found, with how many states searches have, where that is told, and the answer.
+abbrev pub found_text : OutcomesCommand → List Asked → Watch → Option Question → Option How → Found → List ℕ
+found_text command all watch question how found = outcomes_text (registers_asked all) (memory_asked all) found
+    (is_some (stuck_told found)) command.states how (question_text watch question found)
 
 -- Why a condition holds of none is told in lines, of which nothing is said but that there are none where it isn't
 -- asked; and a picture is drawn of that where one is wanted alone.
@@ -132,15 +134,18 @@ HasPutWanted written has_failed old new settings image command plan None order l
 HasPutWanted written has_failed old new settings image command plan (Some picture) order line =
     HasPut written has_failed old new picture
 
--- It is printed, behind it why, where that is asked; and of the same an order is written, where one is wanted and there
--- is one, and no picture of why has its file. `Put` says what was written.
+-- It is printed, with how many states other searches have and behind it why, where these are asked; and of the same an
+-- order is written, where one is wanted and there is one, and no picture of why has its file. `Put` says what was
+-- written.
 pub record HasTold (settings : Settings) (image : ProgramImage) (command : OutcomesCommand) (plan : Plan)
     (all : List Asked) (watch : Watch) (question : Option Question) (found : Found) (Put : Option (List ℕ) → Type 0)
     (old new : Option (List ℕ)) (exit_status : ℕ) : Type 0 where
   pub text : Option (List ℕ)
+  pub how : Option How
+  pub is_how : IsHowOf image settings.config.harts watch command found how
   pub why : List ℕ
   pub is_why : IsWhyOf command why
-  pub printed : Appends old new (found_text command all watch question found ++ why)
+  pub printed : Appends old new (found_text command all watch question how found ++ why)
   pub status : exit_status ≡ status_found watch question found
   pub is_text : is_some command.svg ≡ false → IsTextIf command (setup_of image settings.config) settings.limit plan
       (order_wanted command watch question found) (line_wanted command all watch question found) text

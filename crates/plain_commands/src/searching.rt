@@ -37,12 +37,13 @@ impl<G: Gate> ChoiceOnlooker for Tried<'_, G> {
     }
 }
 
-/// Finds outcomes of a program, as `find_outcomes` does; `gate` is shown how far it is.
+/// Finds outcomes of a program, as `find_outcomes` does, without these reductions; `gate` is shown how far it is.
 pub fn find_shown<G: Gate, U: Until>(
     image: &Image,
     harts: u8,
     watch: &Watch,
     budget: u32,
+    without: Without,
     gate: &G,
     until: &U,
     alloc: Global,
@@ -59,7 +60,7 @@ pub fn find_shown<G: Gate, U: Until>(
         harts,
         watch,
         budget,
-        Without::none(),
+        without,
         &Shown { gate },
         until,
         alloc,
