@@ -1,6 +1,6 @@
 //! The search for all outcomes of a program, or for some.
 
-ghost use Rattle.std.specs.Prelude.{◌≡◌, true, Contains, IfOk, IfErr, OnOk};
+ghost use Rattle.std.specs.Prelude.{◌≡◌, true, false, Contains, IfOk, IfErr, OnOk};
 ghost use Rattle.condensed_machine.specs.Decoded.{Knows};
 ghost use Rattle.condensed_machine.specs.Machine.{IsSound};
 ghost use Rattle.condensed_machine.specs.Steps.{Steps, HasBegun};
@@ -11,6 +11,7 @@ ghost use Rattle.outcomes.specs.{Found.IsOnce, Parts.IsListing, Parts.IsAskedFor
 ghost use Rattle.outcomes.specs.{Collected.IsAskedAt, Ended.AreEnds};
 ghost use Rattle.outcomes.specs.Refusals.{IsRefusedFor, AreWords, AreWatched};
 ghost use Rattle.outcomes.specs.Passes.{IsUnfoundFor, IsCutShort};
+ghost use Rattle.outcomes.specs.Searched.{IsSearchedBy, IsSearchedFor, IsSearchedWith};
 ghost use Rattle.watched_outcomes.specs.Watching.{AreThere};
 
 use crate::ending_goal::EndingGoal;
@@ -59,6 +60,7 @@ pub fn find_outcomes<O: Onlooker, U: Until>(
     ensures asked { IfOk result (IsAskedFor (U.Asks until.now)) }
     ensures present { OnOk result (AreThere harts watch.now × AreWords image.now watch.now) }
     ensures refused { IfErr result (IsRefusedFor image.now harts watch.now) }
+    ensures searched { IfOk result (IsSearchedFor image.now harts without) }
 {
     if without.jumps {
         return find_anywhere(image, harts, watch, budget, without, onlooker, until, alloc);
@@ -83,6 +85,7 @@ fn find_in_passes<O: Onlooker, U: Until>(
     ensures asked { IfOk result (IsAskedFor (U.Asks until.now)) }
     ensures present { OnOk result (AreThere harts watch.now × AreWords image.now watch.now) }
     ensures refused { IfErr result (IsRefusedFor image.now harts watch.now) }
+    ensures searched { IfOk result (IsSearchedWith image.now harts without false) }
 {
     let Ok(mut targets) = first_jumps(image, harts, alloc) else {
         return Err(OutcomesRefused::Memory);
@@ -133,6 +136,7 @@ fn find_anywhere<O: Onlooker, U: Until>(
     ensures asked { IfOk result (IsAskedFor (U.Asks until.now)) }
     ensures present { OnOk result (AreThere harts watch.now × AreWords image.now watch.now) }
     ensures refused { IfErr result (IsRefusedFor image.now harts watch.now) }
+    ensures searched { IfOk result (IsSearchedWith image.now harts without true) }
 {
     let anywhere = Targets::anywhere(alloc);
     match find_within(
@@ -161,6 +165,7 @@ fn find_within<O: Onlooker, U: Until>(
     ensures asked { IfOk result (IsAskedFor (U.Asks until.now)) }
     ensures present { OnOk result (AreThere harts watch.now × AreWords image.now watch.now) }
     ensures unfound { IfErr result (IsUnfoundFor image.now harts watch.now targets) }
+    ensures searched { IfOk result (IsSearchedWith image.now harts without targets.anywhere) }
 {
     let machine = match new_machine(image, harts, watch, targets, without, alloc) {
         Ok(machine) => machine,
@@ -180,6 +185,7 @@ fn new_machine(
 ) -> Result<CondensedMachine, OutcomesRefused>
     ensures image { IfOk result (λ machine. machine.program.image ≡ image.now) }
     ensures harts { IfOk result (λ machine. machine.program.harts ≡ harts) }
+    ensures without { IfOk result (λ machine. machine.program.without ≡ without) }
     ensures sound { IfOk result (λ machine. IsSound machine.program) }
     ensures watched { IfOk result (λ machine. AreWatched machine.program.watched watch.now) }
     ensures anywhere { IfOk result (λ machine. targets.anywhere ≡ true
@@ -228,6 +234,7 @@ fn search_all<O: Onlooker, U: Until>(
         × AreWords machine.program.image watch.now) }
     ensures unfound { IfErr result (IsUnfoundFor machine.program.image machine.program.harts watch.now
         machine.program.targets) }
+    ensures searched { IfOk result (IsSearchedBy machine.program) }
 {
     let mut machine = machine;
     match see_all(&mut machine, watch, budget, onlooker, until, alloc) {
@@ -357,6 +364,7 @@ fn outcomes_of<U: Until>(
     ensures found { IsListing machine.program.image machine.program.harts watch.now budget result }
     ensures once { IsOnce result }
     ensures asked { IsAskedFor (U.Asks until.now) result }
+    ensures searched { IsSearchedBy machine.program result }
 {
     let harts = machine.harts();
     let Seen {
