@@ -4,11 +4,11 @@
 mod configuration;
 mod harts;
 mod help;
+mod options;
 mod refused_words;
 
 use crate::lines::NOTHING_LEFT_OUT;
 use crate::rows::holds;
-use reductions::Without;
 use sim_inputs::{
     Beside, ChartCommand, ChartEnd, CheckCommand, Columns, Command, ExplainCommand, HintsWanted,
     Line, ListCommand, LitmusCommand, MigrateCommand, OutcomesCommand, PlainCommand,

@@ -263,7 +263,7 @@ abbrev pub list_command : App
 list_command = subcommand (codes "list") (image_rule ∷ config_rule ∷ lines_rule ∷ names_rule ∷ [])
 
 -- `chart IMAGE TRACE`, with `--config FILE`, `--harts N`, `--from PLACE`, `--to PLACE`, `--hart N`, `--names`,
--- `--width N`, `--columns COLUMNS`, `--registers`, `--counters`, `--svg FILE`, `--kanata FILE`, `--title TEXT`,
+-- `--width N`, `--columns OF`, `--registers`, `--counters`, `--svg FILE`, `--kanata FILE`, `--title TEXT`,
 -- `--light` and `--dark`.
 abbrev pub chart_command : App
 chart_command = subcommand (codes "chart") (image_rule ∷ trace_rule ∷ config_rule ∷ harts_rule ∷ from_rule ∷ to_rule

@@ -26,7 +26,7 @@ pub(crate) enum Kind {
     When,
     /// `--name THEME`, which may be there.
     Theme,
-    /// `--name COLUMNS`, which may be there.
+    /// `--name OF`, which may be there.
     Columns,
     /// `--name TEXT`, which may be there.
     Text,
@@ -289,7 +289,7 @@ pub(crate) const DARK: Argument = Argument {
 pub(crate) const WITHOUT: Argument = Argument {
     kind: Kind::List,
     name: "without",
-    help: "Reductions that the search does without: RX, J",
+    help: "Leave reductions out of the search: RX, J",
 };
 
 pub(crate) const HOW: Argument = Argument {

@@ -334,7 +334,7 @@ fn argument_of<'a>(row: &'static Argument, alloc: Global) -> Arg<'a>
         Kind::Condition => argument.long(row.name).value_name("CONDITION"),
         Kind::When => argument.long(row.name).value_name("WHEN"),
         Kind::Theme => argument.long(row.name).value_name("THEME"),
-        Kind::Columns => argument.long(row.name).value_name("COLUMNS"),
+        Kind::Columns => argument.long(row.name).value_name("OF"),
         Kind::Text => argument.long(row.name).value_name("TEXT"),
     }
 }

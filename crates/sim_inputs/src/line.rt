@@ -200,7 +200,7 @@ pub struct ChartCommand<'a> {
     /// `--width W`: how many characters a line has, or how many events a band of a picture, 1 to
     /// `MOST_COLUMNS`.
     pub width: u32,
-    /// `--columns WHAT`: what a column is.
+    /// `--columns OF`: what a column is.
     pub columns: Columns,
     /// `--registers`: the physical registers of each instruction stand behind it.
     pub registers: bool,
