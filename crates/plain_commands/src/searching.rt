@@ -1,7 +1,7 @@
 //! The search for all outcomes, and who is shown how far it is.
 
 ghost use Rattle.std.specs.Prelude.{IfOk, IfErr, OnOk};
-ghost use Rattle.outcomes.specs.{Found.IsOnce, Parts.IsAskedFor, Parts.IsListing};
+ghost use Rattle.outcomes.specs.{Found.IsOnce, Parts.IsAskedFor, Parts.IsListing, Searched.IsSearchedFor};
 ghost use Rattle.outcomes.specs.Refusals.{IsRefusedFor, AreWords};
 ghost use Rattle.watched_outcomes.specs.Watching.{AreThere};
 
@@ -50,6 +50,7 @@ pub fn find_shown<G: Gate, U: Until>(
 ) -> Result<Outcomes, OutcomesRefused>
     ensures asked { IfOk result (IsAskedFor (U.Asks until.now)) }
     ensures found { IfOk result (IsListing image.now harts watch.now budget) }
+    ensures searched { IfOk result (IsSearchedFor image.now harts without) }
     ensures once { IfOk result IsOnce }
     ensures present { OnOk result (AreThere harts watch.now × AreWords image.now watch.now) }
     ensures refused { IfErr result (IsRefusedFor image.now harts watch.now) }
