@@ -51,6 +51,7 @@ RUNS = {
     "explain_script": "explain first/first.elf --config first/first.toml --script first/first.script",
     "explain_order": f"explain {PASSING} --order ORDER {TWO}",
     "outcomes": "outcomes locks/swap.elf --config locks/two.toml --watch 80001004:4 --exists h0=16",
+    "outcomes_how": "outcomes locks/c/lock.elf --config locks/two.toml --how",
     "outcomes_witness": f"outcomes {PASSING} {TWO} --outcome 2 --witness OUT",
     "outcomes_script": f"outcomes {PASSING} {TWO} --outcome 3 --script OUT",
     "litmus": "litmus litmus/LRSC.litmus",

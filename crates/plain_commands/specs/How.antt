@@ -3,7 +3,7 @@
 use Rattle.std.specs.Prelude.{◌≡◌, ℕ, true, false, Option, Some, None}
 use Rattle.elf_image.specs.Image.{ProgramImage}
 use Rattle.watched_outcomes.specs.{declared.watch.Watch.Watch}
-use Rattle.outcomes.specs.{Found.Found, Parts.IsListing, Searched.IsSearchedFor}
+use Rattle.outcomes.specs.{Found.Found, Parts.IsAskedFor, Parts.IsListing, Searched.IsSearchedFor}
 use Rattle.reductions.specs.{Names.has, Names.IsWith}
 use Rattle.reductions.specs.declared.{reduction.Reduction.Reduction, without.Without.Without}
 use Rattle.reductions.specs.declared.reduction.Reduction.TheVariants.{Conditional, Jumps}
@@ -11,7 +11,7 @@ use Rattle.outcome_text.specs.{declared.how.StateCount.StateCount, declared.how.
 use Rattle.sim_inputs.specs.{declared.line.OutcomesCommand.OutcomesCommand}
 
 -- A search of its own has so many states, within the budget of the command's: one that leaves this reduction out beside
--- those that the command's leaves out, and no other.
+-- those that the command's leaves out, and no other, and that no outcome has ended.
 pub record IsCount (image : ProgramImage) (harts : ℕ) (watch : Watch) (command : OutcomesCommand)
     (reduction : Reduction) (count : StateCount) : Type 0 where
   pub without : Without
@@ -19,6 +19,7 @@ pub record IsCount (image : ProgramImage) (harts : ℕ) (watch : Watch) (command
   pub found : Found
   pub searched : IsSearchedFor image harts without found
   pub listing : IsListing image harts watch command.states found
+  pub unended : IsAskedFor (λ ending. ⊥) found
   pub is : count ≡ count_of command.states found
 
 -- A reduction has one just where the command's search uses it.
