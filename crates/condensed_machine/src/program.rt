@@ -190,7 +190,9 @@ impl Program {
     }
 
     /// Whether harts that lose their reservations by a step of another follow their local steps behind it.
-    pub(crate) fn follows_losers(&self) -> bool {
+    pub(crate) fn follows_losers(&self) -> bool
+        ensures { result ≡ not self.now.without.conditional }
+    {
         !self.without.conditional
     }
 }

@@ -1,7 +1,7 @@
 -- Which texts are lists of reductions: there are four.
-use Rattle.std.proofs.Common.{◌≡◌, ◌≢◌, ℕ, zero, suc, ◌<◌, true, false, List, [], ◌∷◌, length, refl, sym, ap, ◌∙◌, arith}
-use Rattle.std.specs.Prelude.{AllPairs, Contains, ◌↔◌, codes}
-use Rattle.reductions.specs.{Names.has, Names.name_of, Names.IsWith, Lists.text_of, Lists.IsListOf, Lists.IsListed, Lists.IsNoList}
+use Rattle.std.proofs.Common.{◌≡◌, ◌≢◌, ℕ, zero, suc, true, false, List, [], ◌∷◌, refl, sym, ap, ◌∙◌, arith}
+use Rattle.std.specs.Prelude.{AllPairs, Contains, codes}
+use Rattle.reductions.specs.{Names.has, Names.name_of, Names.IsWith, Lists.text_of, Lists.IsListed, Lists.IsNoList}
 use Rattle.reductions.specs.declared.{reduction.Reduction.Reduction, without.Without.Without}
 use Rattle.reductions.specs.declared.reduction.Reduction.TheVariants.{Conditional, Jumps}
 

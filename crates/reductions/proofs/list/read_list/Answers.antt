@@ -1,5 +1,3 @@
-use Rattle.std.proofs.Common.{rules, ◌≡◌, ◌≢◌, ℕ, true, false, List, [], ◌∷◌, refl, ap, ◌∙◌, sym}
-use Rattle.std.proofs.lemmas.Slice.Eq.{bytes_eq-Decides}
 use Rattle.reductions.proofs.Listing.{one_listed, two_listed, no_list}
 use Rattle.reductions.specs.declared.reduction.Reduction.TheVariants.{Conditional, Jumps}
 use Rattle.reductions.proofs.list.read_list.Goals as goal
