@@ -17,7 +17,7 @@ pub record IsCount (image : ProgramImage) (harts : ℕ) (watch : Watch) (command
   pub without : Without
   pub one_more : IsWith command.without reduction without
   pub found : Found
-  pub searched : IsSearchedFor image harts without found
+  pub searched : IsSearchedFor image harts without command.states found
   pub listing : IsListing image harts watch command.states found
   pub unended : IsAskedFor (λ ending. ⊥) found
   pub is : count ≡ count_of command.states found

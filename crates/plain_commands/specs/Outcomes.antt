@@ -58,15 +58,15 @@ pub record IsWatchOf (watch : Watch) (all : List Asked) : Type 0 where
 
 -- What was found: outcomes of the program, each once and with an order that leads to it; where the search was whole
 -- all of them, and every core ends as one of them says. All that is watched is there. The states are those of a search
--- without the reductions that are left out. Where it has ended with the first outcome that settles the question, that was
--- wanted, and it is listed.
+-- without the reductions that are left out. Where it has ended with the first outcome that settles the question, that
+-- was wanted, and it is listed.
 abbrev pub IsFirstWanted : OutcomesCommand → Watch → Option Question → Found → Type 0
 IsFirstWanted command watch question found =
     IsAskedFor (λ ending. (command.first ≡ true) × (settles watch question ending ≡ true)) found
 
 pub record IsFound (settings : Settings) (image : ProgramImage) (command : OutcomesCommand) (watch : Watch)
     (question : Option Question) (found : Found) : Type 0 where
-  pub searched : IsSearchedFor image settings.config.harts command.without found
+  pub searched : IsSearchedFor image settings.config.harts command.without command.states found
   pub listing : IsListing image settings.config.harts watch command.states found
   pub once : IsOnce found
   pub first : IsFirstWanted command watch question found

@@ -50,7 +50,7 @@ pub fn find_shown<G: Gate, U: Until>(
 ) -> Result<Outcomes, OutcomesRefused>
     ensures asked { IfOk result (IsAskedFor (U.Asks until.now)) }
     ensures found { IfOk result (IsListing image.now harts watch.now budget) }
-    ensures searched { IfOk result (IsSearchedFor image.now harts without) }
+    ensures searched { IfOk result (IsSearchedFor image.now harts without budget) }
     ensures once { IfOk result IsOnce }
     ensures present { OnOk result (AreThere harts watch.now × AreWords image.now watch.now) }
     ensures refused { IfErr result (IsRefusedFor image.now harts watch.now) }
