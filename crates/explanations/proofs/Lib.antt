@@ -1,4 +1,5 @@
 mod Checks
 mod Ends
+mod EnoughRam
 mod Faults
 mod Printed
