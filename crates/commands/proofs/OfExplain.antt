@@ -9,7 +9,7 @@ use Rattle.text_fields.specs.{Printing.Prints}
 use Rattle.elf_image.specs.{declared.refusal.LoadRefused.LoadRefused, Refusal.reason_number, Loaded.IsImageOf}
 use Rattle.elf_image.specs.Image.{ProgramImage}
 use Rattle.explanations.specs.Explained.{IsRefusedBy, IsAccepted, IsConfigTold, IsImageTold}
-use Rattle.explanations.specs.{ConfigRefusal.IsConfigRefusal, ImageRefusal.IsImageRefusal}
+use Rattle.explanations.specs.{ConfigRefusal.IsConfigRefusedText, ImageRefusal.IsImageRefusedText}
 use Rattle.sim_inputs.specs.declared.explained.fault.NumberKey.TheVariants as key
 use Rattle.sim_inputs.specs.Explained.{default_of}
 use Rattle.explanations.specs.ConfigText.{accepted_config}
@@ -61,7 +61,7 @@ prints_both old mid new harts config settings file (a, is_a, first) (b, is_b, se
 -- or why that is refused
 pub prints_check : (old mid new : Option (List ℕ)) (harts : Option ℕ) (config : List ℕ) (settings : Settings) (file : List ℕ)
     (number : ℕ) (check : LoadRefused) → number ≡ reason_number check
-    → Prints old mid (IsConfigTold harts config (Some settings)) → Prints mid new (IsImageRefusal file settings.ram check)
+    → Prints old mid (IsConfigTold harts config (Some settings)) → Prints mid new (IsImageRefusedText file settings.ram check)
     → Prints old new (TellsCheck harts settings file number)
 prints_check old mid new harts config settings file number check same (a, is_a, first) (b, is_b, second) = (
   a ++ b,
@@ -71,7 +71,7 @@ prints_check old mid new harts config settings file number check same (a, is_a, 
 
 -- which fault a configuration has, and behind it what is said of the image
 pub prints_fault : (old mid new : Option (List ℕ)) (config : List ℕ) (image : Read)
-    → Prints old mid (IsConfigRefusal config) → Prints mid new (IsBehindRefused image)
+    → Prints old mid (IsConfigRefusedText config) → Prints mid new (IsBehindRefused image)
     → Prints old new (TellsFault config image)
 prints_fault old mid new config image (a, is_a, first) (b, is_b, second) = (
   a ++ b,
@@ -100,8 +100,10 @@ nothing : (old : Option (List ℕ)) → Appends old old []
 nothing None = tt
 nothing (Some xs) = sym (append-nil xs)
 
-pub prints_nothing : (old : Option (List ℕ)) → Prints old old (IsBehindRefused (Err unread.File))
-prints_nothing old = ([], refl, nothing old)
+pub prints_nothing : (old : Option (List ℕ)) (image : Read) → image ≡ Err unread.File
+    → Prints old old (IsBehindRefused image)
+prints_nothing old image unread =
+    subst (λ (read : Read). Prints old old (IsBehindRefused read)) (sym unread) ([], refl, nothing old)
 
 -- what is said of a configuration, and of an image, once it is known which it is
 pub accepted_line : (harts : Option ℕ) (config : List ℕ) (found : Option Settings) (settings : Settings)
@@ -111,7 +113,7 @@ accepted_line harts config found settings old mid is told =
     subst (λ (f : Option Settings). Prints old mid (IsConfigTold harts config f)) is told
 
 pub refused_config : (harts : Option ℕ) (config : List ℕ) (found : Option Settings) (old mid : Option (List ℕ))
-    → found ≡ None → Prints old mid (IsConfigTold harts config found) → Prints old mid (IsConfigRefusal config)
+    → found ≡ None → Prints old mid (IsConfigTold harts config found) → Prints old mid (IsConfigRefusedText config)
 refused_config harts config found old mid is told =
     subst (λ (f : Option Settings). Prints old mid (IsConfigTold harts config f)) is told
 
@@ -122,7 +124,7 @@ accepted_image_line file ram found old mid is told =
 
 pub refused_image : (file : List ℕ) (ram : ℕ) (found : Option LoadRefused) (check : LoadRefused)
     (old mid : Option (List ℕ)) → found ≡ Some check → Prints old mid (IsImageTold file ram found)
-    → Prints old mid (IsImageRefusal file ram check)
+    → Prints old mid (IsImageRefusedText file ram check)
 refused_image file ram found check old mid is told =
     subst (λ (f : Option LoadRefused). Prints old mid (IsImageTold file ram f)) is told
 

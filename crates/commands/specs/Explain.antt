@@ -12,7 +12,7 @@ use Rattle.sim_inputs.specs.declared.line.Beside.TheVariants as beside
 use Rattle.sim_inputs.specs.declared.explained.fault.NumberKey.TheVariants as key
 use Rattle.sim_inputs.specs.Explained.{default_of}
 use Rattle.explanations.specs.Explained.{Begins, IsAccepted, IsRefusedBy, IsImageTold}
-use Rattle.explanations.specs.{ConfigRefusal.IsConfigRefusal, ImageRefusal.IsImageRefusal}
+use Rattle.explanations.specs.{ConfigRefusal.IsConfigRefusedText, ImageRefusal.IsImageRefusedText}
 use Rattle.explanations.specs.ConfigText.{accepted_config}
 use Rattle.core_commands.specs.{Check.AreHistory, Check.OfEvents, Judgement.IsJudgementRefusal}
 use Rattle.explained_words.specs.Explained.{IsOrderFault, IsFollowed, script_head, order_head}
@@ -54,7 +54,7 @@ pub record TellsCheck (harts : Option ℕ) (settings : Settings) (file : List �
   pub check : LoadRefused
   pub has_number : number ≡ reason_number check
   pub said : List ℕ
-  pub is_said : IsImageRefusal file settings.ram check said
+  pub is_said : IsImageRefusedText file settings.ram check said
   pub whole : text ≡ accepted_config (with_harts harts settings) ++ said
 
 -- Of an image beside a configuration that is refused: all that is said of it with the memory that there is without one;
@@ -74,7 +74,7 @@ IsBehindRefused (Err unread.Memory) text = ⊥
 -- Which fault a configuration has, and that behind it.
 pub record TellsFault (config : List ℕ) (image : Read) (text : List ℕ) : Type 0 where
   pub first : List ℕ
-  pub is_first : IsConfigRefusal config first
+  pub is_first : IsConfigRefusedText config first
   pub behind : List ℕ
   pub is_behind : IsBehindRefused image behind
   pub whole : text ≡ first ++ behind

@@ -2,4 +2,5 @@ mod Checks
 mod Ends
 mod EnoughRam
 mod Faults
+mod Nearest
 mod Printed

@@ -11,7 +11,7 @@ use Rattle.elf_image.specs.declared.refusal.LoadRefused.TheVariants as check
 use Rattle.elf_image.specs.Refusal.{reason_number}
 use Rattle.sim_inputs.specs.declared.explained.fault.ConfigFault.{ConfigFault}
 use Rattle.explanations.specs.ConfigRefusal.{IsTold, IsFaultHint, IsFaultText, config_fault_text}
-use Rattle.explanations.specs.ImageRefusal.{IsEnough, IsEnoughFor, IsImageRefusal, found_text, fault_text, refused_line}
+use Rattle.explanations.specs.ImageRefusal.{IsEnough, IsEnoughFor, IsImageRefusedText, found_text, fault_text, refused_line}
 use Rattle.explanations.specs.ImageRefusal.{check_words, mended}
 use Rattle.explanations.specs.ImageText.{IsFree, image_text, AreNamesText, IsImageTextBehind, IsImageText}
 
@@ -79,7 +79,7 @@ enough_for headers loaded enough one same is = tt
 pub told_refusal : (file : List ℕ) (headers : List ProgramHeader) (ram : ℕ) (enough : Option ℕ) (one : LoadRefused)
     (line items text : List ℕ) → (10 ≤ reason_number one → headers ≡ loadable file) → IsEnough headers enough
     → Appends (Some []) (Some items) (fault_text file headers ram enough one)
-    → line ≡ refused_line (reason_number one) → text ≡ line ++ items → IsImageRefusal file ram one text
+    → line ≡ refused_line (reason_number one) → text ≡ line ++ items → IsImageRefusedText file ram one text
 told_refusal file headers ram enough one line items text same is written first whole = record {
   enough = enough;
   is_enough = enough_for headers (loadable file) enough one same is;

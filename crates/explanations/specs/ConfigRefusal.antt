@@ -36,15 +36,25 @@ names_text names = each_from listed 0 names ++ 10 ∷ []
 abbrev pub distance : List ℕ → List ℕ → ℕ
 distance other name = (osa_table (chars other) (chars name)).last_row (length (chars name))
 
--- One of the names is near, at a third of its letters at the most, rounded up.
+abbrev pub distance_to : List ℕ → List (List ℕ) → ℕ → ℕ
+distance_to other names index = distance other (get_or names index [])
+
+-- These are at most a third of its letters, rounded up.
+abbrev pub IsNear : List ℕ → List (List ℕ) → ℕ → Type 0
+IsNear other names index = 3 * distance_to other names index ≤ length (get_or names index []) + 2
+
+-- The name at a place is near, none is nearer, and none before it is as near.
 pub record IsMeant (other : List ℕ) (names : List (List ℕ)) (index : ℕ) : Type 0 where
   pub inside : index < length names
-  pub near : 3 * distance other (get_or names index []) ≤ length (get_or names index []) + 2
+  pub near : IsNear other names index
+  pub first : (k : ℕ) → k < index → IsNear other names k → distance_to other names index < distance_to other names k
+  pub least : (k : ℕ) → k < length names → IsNear other names k
+      → distance_to other names index ≤ distance_to other names k
 
--- Which name was meant, where one is near.
+-- Which name was meant; or none is near.
 abbrev pub IsHint : List ℕ → List (List ℕ) → Option ℕ → Type 0
 IsHint other names (Some index) = IsMeant other names index
-IsHint other names None = Unit {0}
+IsHint other names None = (k : ℕ) → k < length names → IsNear other names k → ⊥
 
 unfoldable pub meant_line : List ℕ → List ℕ
 meant_line name = codes ": did you mean `" ++ (name ++ codes "`?\n")
@@ -141,7 +151,7 @@ pub record IsFaultText (text : List ℕ) (fault : ConfigFault) (said : List ℕ)
   pub is_hint : IsFaultHint fault meant
   pub whole : said ≡ codes "config refused\n" ++ config_fault_text text fault meant
 
-pub record IsConfigRefusal (text said : List ℕ) : Type 0 where
+pub record IsConfigRefusedText (text said : List ℕ) : Type 0 where
   pub fault : ConfigFault
   pub has : IsFaultOf text fault
   pub is_text : IsFaultText text fault said

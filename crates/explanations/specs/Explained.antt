@@ -6,8 +6,8 @@ use Rattle.elf_image.specs.{Checks.Passes, Checks.IsLoadRefusal, Loaded.IsImageO
 use Rattle.sim_inputs.specs.{declared.settings.Settings.Settings, Configuration.IsConfiguration}
 use Rattle.sim_inputs.specs.Configuration.{with_harts}
 use Rattle.explanations.specs.{declared.config.ConfigExplained.ConfigExplained}
-use Rattle.explanations.specs.{ConfigText.accepted_config, ConfigRefusal.IsConfigRefusal}
-use Rattle.explanations.specs.{ImageText.IsImageText, ImageRefusal.IsImageRefusal}
+use Rattle.explanations.specs.{ConfigText.accepted_config, ConfigRefusal.IsConfigRefusedText}
+use Rattle.explanations.specs.{ImageText.IsImageText, ImageRefusal.IsImageRefusedText}
 use Rattle.explanations.specs.{declared.image.ImageExplained.ImageExplained}
 
 -- A text begins with another one.
@@ -18,7 +18,7 @@ Begins head text = (rest : List ℕ) × (text ≡ head ++ rest)
 -- makes none.
 abbrev pub IsConfigTold : Option ℕ → List ℕ → Option Settings → List ℕ → Type 0
 IsConfigTold harts config (Some settings) said = said ≡ accepted_config (with_harts harts settings)
-IsConfigTold harts config None said = IsConfigRefusal config said
+IsConfigTold harts config None said = IsConfigRefusedText config said
 
 -- What is said of a configuration: that it is accepted, where it makes settings, and which these are; and else that it
 -- is refused, and for which fault.
@@ -42,7 +42,7 @@ pub record IsAccepted (file : List ℕ) (ram : ℕ) (text : List ℕ) : Type 0 w
 -- What is said of an image that fails no check, or this one first.
 abbrev pub IsImageTold : List ℕ → ℕ → Option LoadRefused → List ℕ → Type 0
 IsImageTold file ram None text = IsAccepted file ram text
-IsImageTold file ram (Some check) text = IsImageRefusal file ram check text
+IsImageTold file ram (Some check) text = IsImageRefusedText file ram check text
 
 -- What is said of an image: that it is accepted, where it passes every check, and what is in it; and else that it is
 -- refused, the number of the first check that it fails, and how it does.

@@ -195,7 +195,7 @@ abbrev pub refused_line : ℕ → List ℕ
 refused_line number = codes "image refused " ++ (decimal number ++ codes "\n")
 
 -- All that is said of a file that fails this check first.
-pub record IsImageRefusal (file : List ℕ) (ram : ℕ) (check : LoadRefused) (text : List ℕ) : Type 0 where
+pub record IsImageRefusedText (file : List ℕ) (ram : ℕ) (check : LoadRefused) (text : List ℕ) : Type 0 where
   pub enough : Option ℕ
   pub is_enough : IsEnoughFor check (loadable file) enough
   pub whole : text ≡ refused_line (reason_number check) ++ fault_text file (loadable file) ram enough check

@@ -6,7 +6,7 @@ ghost use Rattle.elf_image.specs.Refusal.{reason_number};
 ghost use Rattle.elf_image.specs.Layout.{table_offset, table_count, loadable};
 ghost use Rattle.std.specs.Io.KnownBytes.{Appends};
 ghost use Rattle.explanations.specs.Explained.{IsImageExplained, IsRefusedBy};
-ghost use Rattle.explanations.specs.ImageRefusal.{IsImageRefusal, refused_line, fault_text, found_text};
+ghost use Rattle.explanations.specs.ImageRefusal.{IsImageRefusedText, refused_line, fault_text, found_text};
 ghost use Rattle.explanations.specs.ImageText.{IsImageText, IsImageTextBehind};
 
 use crate::check_words::{mended, words_of_check};
@@ -100,7 +100,7 @@ fn refused_text(
     alloc: Global,
 ) -> Result<Vec<u8>, AllocError>
     requires { IsRefusedBy file.now ram check }
-    ensures { IfOk result (λ text. IsImageRefusal file.now ram check text.items) }
+    ensures { IfOk result (λ text. IsImageRefusedText file.now ram check text.items) }
 {
     let headers = headers_for(file, check, alloc)?;
     let enough = ram_that_would_do(&headers);

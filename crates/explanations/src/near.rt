@@ -1,6 +1,7 @@
 //! Which of some names was meant by another text.
 
-ghost use Rattle.std.specs.Prelude.{◌≡◌, ◌++◌, ◌∷◌, [], map, IfOk, OnOk};
+ghost use Rattle.std.specs.Prelude.{◌≡◌, ◌&&◌, nat_lt, nat_le, ◌++◌, ◌∷◌, [], map, IfOk, OnOk};
+ghost use Rattle.std.specs.Int.{div_ceil};
 ghost use Rattle.std.specs.Io.KnownBytes.{Appends};
 ghost use Rattle.text_fields.specs.Each.{each_from};
 ghost use Rattle.explanations.specs.ConfigRefusal.{IsHint, listed};
@@ -23,12 +24,19 @@ pub(crate) fn nearest(
     let mut least = usize::MAX;
     for (place, name) in names.iter().enumerate() {
         let distance = osa_distance(alloc, text, name)?;
-        if distance < least && distance <= name.len().div_ceil(3) {
+        if is_nearer(distance, least, name.len()) {
             least = distance;
             nearest = Some(place);
         }
     }
     Ok(nearest)
+}
+
+/// Whether a name of so many letters is near at this distance, and nearer than at another one.
+fn is_nearer(distance: usize, least: usize, letters: usize) -> bool
+    ensures { result ≡ (nat_lt distance least && nat_le distance (div_ceil letters 3)) }
+{
+    distance < least && distance <= letters.div_ceil(3)
 }
 
 /// Writes the names with commas between, in quotation marks as keys have them in a page.

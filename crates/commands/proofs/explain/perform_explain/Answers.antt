@@ -8,7 +8,7 @@ use Rattle.commands.proofs.explain.perform_explain.Goals as goal
 pub returns-in_default-clause-explained : goal.returns-in_default-clause-explained
 returns-in_default-clause-explained g c =
     prints_fault (g.W.Write.contents c.args.out.now) (g.W.Write.contents c.tell_config.new.out)
-    (g.W.Write.contents c.tell_without_config.new.out) c.args.config.now (as_read c.args.image.entry)
+    (g.W.Write.contents c.tell_without_config.new.out) c.args.config.now (as_read c.args.image)
     (refused_config c.args.harts.now c.args.config.now c.in_ok-settings.field-0 (g.W.Write.contents c.args.out.now)
     (g.W.Write.contents c.tell_config.new.out) (search rules) c.in_ok-settings.ensures.printed)
     c.in_ok-tell_without_config.ensures.printed
