@@ -50,7 +50,8 @@ appended (Some xs) (Some ys) (Some zs) a b first second =
 
 -- what is said of a configuration, and then of an image
 pub prints_both : (old mid new : Option (List ℕ)) (harts : Option ℕ) (config : List ℕ) (settings : Settings)
-    (file : List ℕ) → Prints old mid (IsConfigTold harts config (Some settings)) → Prints mid new (IsAccepted file settings.ram)
+    (file : List ℕ) → Prints old mid (IsConfigTold harts config (Some settings))
+    → Prints mid new (IsAccepted file settings.ram)
     → Prints old new (TellsBoth harts settings file)
 prints_both old mid new harts config settings file (a, is_a, first) (b, is_b, second) = (
   a ++ b,
@@ -59,9 +60,11 @@ prints_both old mid new harts config settings file (a, is_a, first) (b, is_b, se
 )
 
 -- or why that is refused
-pub prints_check : (old mid new : Option (List ℕ)) (harts : Option ℕ) (config : List ℕ) (settings : Settings) (file : List ℕ)
+pub prints_check : (old mid new : Option (List ℕ)) (harts : Option ℕ)
+    (config : List ℕ) (settings : Settings) (file : List ℕ)
     (number : ℕ) (check : LoadRefused) → number ≡ reason_number check
-    → Prints old mid (IsConfigTold harts config (Some settings)) → Prints mid new (IsImageRefusedText file settings.ram check)
+    → Prints old mid (IsConfigTold harts config (Some settings))
+    → Prints mid new (IsImageRefusedText file settings.ram check)
     → Prints old new (TellsCheck harts settings file number)
 prints_check old mid new harts config settings file number check same (a, is_a, first) (b, is_b, second) = (
   a ++ b,

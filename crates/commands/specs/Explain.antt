@@ -79,8 +79,8 @@ pub record TellsFault (config : List ℕ) (image : Read) (text : List ℕ) : Typ
   pub is_behind : IsBehindRefused image behind
   pub whole : text ≡ first ++ behind
 
--- What was printed before a refusal: why the configuration is refused, and what there is to say of the image without it;
--- or which settings it makes, and why the image is refused.
+-- What was printed before a refusal: why the configuration is refused, and what there is to say of the image without
+-- it; or which settings it makes, and why the image is refused.
 abbrev pub IsExplanationOf : Option ℕ → List ℕ → Read → Refused → Option (List ℕ) → Option (List ℕ) → Type 0
 IsExplanationOf harts config image (Image number) old new = OfSettings (Ok config)
     (λ settings. OfFile image (λ file. Prints old new (TellsCheck harts settings file number)))

@@ -1,5 +1,6 @@
 -- How much RAM has room for all segments.
-use Rattle.std.proofs.Common.{◌≡◌, ℕ, ◌+◌, ◌-◌, ◌*◌, ◌/◌, ◌%◌, ◌^◌, ◌<◌, ◌≤◌, List, length, get_or, arith, ap, subst, sym, ◌∙◌, max}
+use Rattle.std.proofs.Common.{◌≡◌, ℕ, ◌+◌, ◌-◌, ◌*◌, ◌/◌, ◌%◌, ◌^◌, ◌<◌}
+use Rattle.std.proofs.Common.{◌≤◌, List, length, get_or, arith, ap, subst, sym, ◌∙◌, max}
 use Rattle.std.proofs.lemmas.List.{get_or_default}
 use Rattle.std.proofs.Math.Nat.{eq-or-lt_of_le}
 use mathlib.Core.Logic.{inl, inr}
@@ -29,7 +30,8 @@ higher headers i bytes end d inside so begins is below more most = record {
         | inl same ↦
             let one : get_or headers k e ≡ get_or headers i d =
             ap (λ j. get_or headers j e) same ∙ get_or_default headers i e d inside in
-            subst (λ (h : ProgramHeader). (ram_start ≤ h.address) × (h.address + h.memory_size ≤ ram_start + more)) (sym one)
+            subst (λ (h : ProgramHeader). (ram_start ≤ h.address)
+            × (h.address + h.memory_size ≤ ram_start + more)) (sym one)
             (begins, omega (arith, begins, is, most))
         | inr less ↦
             let old = so.within k e less within in (old.0, omega (arith, old.1, most))

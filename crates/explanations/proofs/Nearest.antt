@@ -4,7 +4,7 @@ use Rattle.std.proofs.Common.{◌≡◌, ℕ, ◌+◌, ◌-◌, ◌*◌, ◌^◌
 use Rattle.std.proofs.Common.{arith, ap, subst, sym, refl, ◌∙◌}
 use Rattle.std.proofs.Math.Nat.{eq-or-lt_of_le}
 use mathlib.Core.Logic.{inl, inr}
-use Rattle.explanations.specs.ConfigRefusal.{distance, distance_to, IsNear, IsHint, IsMeant}
+use Rattle.explanations.specs.ConfigRefusal.{distance, distance_to, IsNear}
 
 -- Of so many names the nearest was found, at this distance; or none of them is near.
 pub record IsNearestBefore (other : List ℕ) (names : List (List ℕ)) (count least index : ℕ) : Type 0 where
@@ -47,19 +47,17 @@ taken other names count d least found name here is nearer near so =
       all = λ k below one.
           elim (eq-or-lt_of_le {n = k} {m = count} (omega (arith, below))) [
             | inl last ↦ let there = same ∙ ap (distance_to other names) (sym last) in omega (arith, there)
-            | inr less ↦ let there = farther other names count d least found so nearer k less one in omega (arith, there)
+            | inr less ↦
+                let there = farther other names count d least found so nearer k less one in omega (arith, there)
           ];
     }
 
-not_less : (d least : ℕ) → (d < least → ⊥) → (other : ℕ) → d ≡ other → least ≤ other
-not_less d least never other same = omega (arith, never, same)
-
 -- the next one isn't
 pub passed : (other : List ℕ) (names : List (List ℕ)) (count d least : ℕ) (found : Option ℕ) (name : List ℕ)
-    → name ≡ get_or names count [] → d ≡ distance other name → length name < 2 ^ 63
-    → (d < least → d ≤ div_ceil (length name) 3 → ⊥)
+    → name ≡ get_or names count [] → d ≡ distance other name
+    → (d ≤ div_ceil (length name) 3 → (least ≤ d) × (d < 2 ^ 64 - 1))
     → IsNearestOf other names count least found → IsNearestOf other names (count + 1) least found
-passed other names count d least (Some index) name here is short farther so =
+passed other names count d least (Some index) name here is farther so =
     let same : d ≡ distance_to other names count = is ∙ ap (distance other) here in
     let long : length name ≡ length (get_or names count []) = ap length here in
     record {
@@ -72,12 +70,12 @@ passed other names count d least (Some index) name here is short farther so =
             | inl last ↦
                 let near : IsNear other names count = subst (λ (n : ℕ). IsNear other names n) last one in
                 let there = ap (distance_to other names) last in
-                not_less d least (λ less. farther less (omega (arith, near, same, long))) (distance_to other names k)
-                    (same ∙ sym there)
+                let far = farther (omega (arith, near, same, long)) in
+                omega (arith, far.0, same, there)
             | inr less ↦ so.all k less one
           ];
     }
-passed other names count d least None name here is short farther so =
+passed other names count d least None name here is farther so =
     let same : d ≡ distance_to other names count = is ∙ ap (distance other) here in
     let long : length name ≡ length (get_or names count []) = ap length here in
     record {
@@ -86,19 +84,8 @@ passed other names count d least None name here is short farther so =
           elim (eq-or-lt_of_le {n = k} {m = count} (omega (arith, below))) [
             | inl last ↦
                 let near : IsNear other names count = subst (λ (n : ℕ). IsNear other names n) last one in
-                farther (omega (arith, near, same, long, short, so.greatest)) (omega (arith, near, same, long))
+                let far = farther (omega (arith, near, same, long)) in
+                absurd (omega (arith, far.0, far.1, so.greatest))
             | inr less ↦ so.none k less one
           ];
     }
-
--- all were looked at
-pub all_looked : (other : List ℕ) (names : List (List ℕ)) (count least : ℕ) (found : Option ℕ)
-    → length names ≤ count → count ≤ length names → IsNearestOf other names count least found
-    → IsHint other names found
-all_looked other names count least (Some index) all within so = record {
-  inside = omega (arith, so.inside, within);
-  near = so.near;
-  first = λ k below near. let there = so.first k below near in omega (arith, there, so.is);
-  least = λ k below near. let there = so.all k (omega (arith, below, all)) near in omega (arith, there, so.is);
-}
-all_looked other names count least None all within so k below near = so.none k (omega (arith, below, all)) near

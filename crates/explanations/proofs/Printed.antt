@@ -11,7 +11,8 @@ use Rattle.elf_image.specs.declared.refusal.LoadRefused.TheVariants as check
 use Rattle.elf_image.specs.Refusal.{reason_number}
 use Rattle.sim_inputs.specs.declared.explained.fault.ConfigFault.{ConfigFault}
 use Rattle.explanations.specs.ConfigRefusal.{IsTold, IsFaultHint, IsFaultText, config_fault_text}
-use Rattle.explanations.specs.ImageRefusal.{IsEnough, IsEnoughFor, IsImageRefusedText, found_text, fault_text, refused_line}
+use Rattle.explanations.specs.ImageRefusal.{IsEnough, IsEnoughFor, IsImageRefusedText}
+use Rattle.explanations.specs.ImageRefusal.{found_text, fault_text, refused_line}
 use Rattle.explanations.specs.ImageRefusal.{check_words, mended}
 use Rattle.explanations.specs.ImageText.{IsFree, image_text, AreNamesText, IsImageTextBehind, IsImageText}
 
@@ -84,7 +85,8 @@ told_refusal file headers ram enough one line items text same is written first w
   enough = enough;
   is_enough = enough_for headers (loadable file) enough one same is;
   whole = whole ∙ ap (λ t. t ++ items) first ∙ ap (λ t. refused_line (reason_number one) ++ t) (written
-      ∙ ap (λ t. check_words one ++ 10 ∷ (t ++ mended one)) (same_fault file headers (loadable file) ram enough one same));
+      ∙ ap (λ t. check_words one ++ 10 ∷ (t ++ mended one))
+      (same_fault file headers (loadable file) ram enough one same));
 }
 
 -- what is said of a configuration

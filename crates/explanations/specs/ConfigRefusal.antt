@@ -66,7 +66,8 @@ meant_text other names None = []
 -- ---- What was expected, and what usually mends it
 
 unfoldable pub document_wanted : List ℕ
-document_wanted = codes "expected: a TOML document in UTF-8, with a line such as `harts = 1` for a key\nusually: a text without its quotation marks, a list without its last bracket, or a key twice\n"
+document_wanted = codes "expected: a TOML document in UTF-8, with a line such as `harts = 1` for a key\n"
+    ++ codes "usually: a text without its quotation marks, a list without its last bracket, or a key twice\n"
 
 unfoldable pub keys_wanted : List ℕ
 keys_wanted = codes "expected: no other keys than "

@@ -1,5 +1,6 @@
 -- The text of an image that is refused. (This project's own choice.)
-use Rattle.std.specs.Prelude.{◌≡◌, ℕ, ◌+◌, ◌-◌, ◌^◌, ◌≤◌, ◌&&◌, nat_le, nat_lt, if◌then◌else◌, false, List, [], ◌∷◌, ◌++◌}
+use Rattle.std.specs.Prelude.{◌≡◌, ℕ, ◌+◌, ◌-◌, ◌^◌, ◌≤◌, ◌&&◌}
+use Rattle.std.specs.Prelude.{nat_le, nat_lt, if◌then◌else◌, false, List, [], ◌∷◌, ◌++◌}
 use Rattle.std.specs.Prelude.{codes, length, take, slice_index, All, flat_map, Option, Some, None}
 use Rattle.std.specs.Fmt.{decimal, digits, padded_integral, format_spec}
 use Rattle.text_fields.specs.Each.{each_from}
@@ -35,22 +36,34 @@ check_words check.OutOfMemory = codes "out of memory"
 -- What was expected, and what usually mends it; of segments outside RAM that is said with the size of RAM.
 unfoldable pub mended : LoadRefused → List ℕ
 mended check.TooShort = codes "usually: an empty file, or another one than the linked program\n"
-mended check.NotElf = codes "expected: 7f 45 4c 46\nusually: a source, or what objcopy made of it: take what the linker has written\n"
-mended check.NotClass32 = codes "expected: 1, for 32 bits\nusually: compiled for this machine, or for RV64: `-march=rv32ima -mabi=ilp32`\n"
-mended check.NotLittleEndian = codes "expected: 1, for little-endian\nusually: compiled for this machine: take a cross compiler for RISC-V\n"
+mended check.NotElf = codes "expected: 7f 45 4c 46\n"
+    ++ codes "usually: a source, or what objcopy made of it: take what the linker has written\n"
+mended check.NotClass32 = codes "expected: 1, for 32 bits\n"
+    ++ codes "usually: compiled for this machine, or for RV64: `-march=rv32ima -mabi=ilp32`\n"
+mended check.NotLittleEndian = codes "expected: 1, for little-endian\n"
+    ++ codes "usually: compiled for this machine: take a cross compiler for RISC-V\n"
 mended check.WrongVersion = codes "expected: 1 and 1\nusually: the file is damaged: link the program again\n"
-mended check.NotExecutable = codes "expected: 2, an executable\nusually: 1 is an object file: link it; 3 is for any address: link without `-pie`\n"
-mended check.NotRiscV = codes "expected: 243, RISC-V\nusually: compiled for this machine: take a cross compiler for RISC-V\n"
+mended check.NotExecutable = codes "expected: 2, an executable\n"
+    ++ codes "usually: 1 is an object file: link it; 3 is for any address: link without `-pie`\n"
+mended check.NotRiscV = codes "expected: 243, RISC-V\n"
+    ++ codes "usually: compiled for this machine: take a cross compiler for RISC-V\n"
 mended check.WrongHeaderSize = codes "expected: 52 and 32\nusually: the file is damaged: link the program again\n"
-mended check.TableOutsideFile = codes "expected: all of the table, 32 bytes a header, within the file\nusually: the file was cut: link the program again\n"
-mended check.WrongSegmentCount = codes "usually: an object file, which has none: link it; or a segment for each section: link by `examples/start/program.ld`\n"
+mended check.TableOutsideFile = codes "expected: all of the table, 32 bytes a header, within the file\n"
+    ++ codes "usually: the file was cut: link the program again\n"
+mended check.WrongSegmentCount = codes "usually: an object file, which has none: link it; or a segment for "
+    ++ codes "each section: link by `examples/start/program.ld`\n"
 mended check.SegmentOutsideFile = codes "usually: the file was cut: link the program again\n"
-mended check.WrongMemorySize = codes "expected: a byte in memory at least, and no fewer than in the file\nusually: a segment of an empty section: leave it out of the linker script\n"
+mended check.WrongMemorySize = codes "expected: a byte in memory at least, and no fewer than in the file\n"
+    ++ codes "usually: a segment of an empty section: leave it out of the linker script\n"
 mended check.SegmentOutsideRam = []
-mended check.SegmentsOverlap = codes "expected: no address in two of them\nusually: two sections at one address in the linker script\n"
-mended check.WrongCodeSegment = codes "expected: X on one of them alone\nusually: code in two segments: put it into one by `examples/start/program.ld`\n"
-mended check.MisalignedCode = codes "expected: an address and a size in memory that are multiples of 4\nusually: no `. = ALIGN(4)` behind the code in the linker script\n"
-mended check.WrongEntry = codes "expected: a multiple of 4 in the segment with X\nusually: no `_start`, or no `ENTRY(_start)` in the linker script\n"
+mended check.SegmentsOverlap = codes "expected: no address in two of them\n"
+    ++ codes "usually: two sections at one address in the linker script\n"
+mended check.WrongCodeSegment = codes "expected: X on one of them alone\n"
+    ++ codes "usually: code in two segments: put it into one by `examples/start/program.ld`\n"
+mended check.MisalignedCode = codes "expected: an address and a size in memory that are multiples of 4\n"
+    ++ codes "usually: no `. = ALIGN(4)` behind the code in the linker script\n"
+mended check.WrongEntry = codes "expected: a multiple of 4 in the segment with X\n"
+    ++ codes "usually: no `_start`, or no `ENTRY(_start)` in the linker script\n"
 mended check.OutOfMemory = []
 
 -- ---- What the file header has
@@ -148,7 +161,8 @@ unfoldable pub would_do_line : ℕ → List ℕ
 would_do_line ram = codes "usually: `ram` is too small: `ram = " ++ (decimal ram ++ codes "` would do\n")
 
 unfoldable pub before_code_line : List ℕ
-before_code_line = codes "usually: the headers of the file lie before the code: link with `-z max-page-size=4` by `examples/start/program.ld`\n"
+before_code_line = codes "usually: the headers of the file lie before the code: link with `-z "
+    ++ codes "max-page-size=4` by `examples/start/program.ld`\n"
 
 abbrev pub enough_line : Option ℕ → List ℕ
 enough_line (Some ram) = would_do_line ram

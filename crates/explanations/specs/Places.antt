@@ -1,5 +1,6 @@
 -- Where something stands in a text. (This project's own choice.)
-use Rattle.std.specs.Prelude.{ℕ, ◌+◌, ◌/◌, ◌==◌, ◌&&◌, ◌||◌, not, nat_lt, Bool, true, false, if◌then◌else◌, List, [], ◌∷◌, ◌++◌}
+use Rattle.std.specs.Prelude.{ℕ, ◌+◌, ◌/◌, ◌==◌, ◌&&◌, ◌||◌, not, nat_lt}
+use Rattle.std.specs.Prelude.{Bool, true, false, if◌then◌else◌, List, [], ◌∷◌, ◌++◌}
 use Rattle.std.specs.Prelude.{codes, length, take, drop, Option, Some, None}
 use Rattle.std.specs.{Fmt.decimal, List.starts_with, Char.is_ascii_alphanumeric}
 use Rattle.explanations.specs.declared.place.Place.{Place}

@@ -2,7 +2,8 @@
 
 ghost use Rattle.std.specs.Prelude.{OnOk, flat_map};
 ghost use Rattle.std.specs.Io.KnownBytes.{Appends};
-ghost use Rattle.explanations.specs.ImageRefusal.{length_line, byte_text, first_bytes_lead, first_bytes_line, byte_line};
+ghost use Rattle.explanations.specs.ImageRefusal.{length_line, byte_text};
+ghost use Rattle.explanations.specs.ImageRefusal.{first_bytes_lead, first_bytes_line, byte_line};
 ghost use Rattle.explanations.specs.ImageRefusal.{version_line, type_line, machine_line, header_sizes_line, table_line};
 
 use std::io;

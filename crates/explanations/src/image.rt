@@ -11,13 +11,17 @@ ghost use Rattle.explanations.specs.ImageText.{IsImageText, IsImageTextBehind};
 
 use crate::check_words::{mended, words_of_check};
 use crate::enough_ram::ram_that_would_do;
-use crate::file_fault::{write_byte, write_first_bytes, write_header_sizes, write_length};
-use crate::file_fault::{write_machine, write_table, write_type, write_version};
+use crate::file_fault::{
+    write_byte, write_first_bytes, write_header_sizes, write_length, write_machine, write_table,
+    write_type, write_version,
+};
 use crate::headers::read_loadable;
 use crate::lines::joined;
 use crate::names::write_names;
-use crate::segment_fault::{write_code, write_count, write_entry_and_code, write_outside_file};
-use crate::segment_fault::{write_outside_ram, write_wrong_size};
+use crate::segment_fault::{
+    write_code, write_count, write_entry_and_code, write_outside_file, write_outside_ram,
+    write_wrong_size,
+};
 use crate::segments::{free_behind, write_image, write_segments};
 use arrayvec::ArrayString;
 use elf_image::{Image, LoadRefused, ProgramHeader, RamSize, load, read_half, read_word};

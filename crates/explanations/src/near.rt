@@ -1,6 +1,6 @@
 //! Which of some names was meant by another text.
 
-ghost use Rattle.std.specs.Prelude.{◌≡◌, ◌&&◌, nat_lt, nat_le, ◌++◌, ◌∷◌, [], map, IfOk, OnOk};
+ghost use Rattle.std.specs.Prelude.{◌≡◌, ◌<◌, ◌≤◌, ◌-◌, ◌^◌, false, ◌++◌, ◌∷◌, [], map, IfOk, OnOk, IsTrue};
 ghost use Rattle.std.specs.Int.{div_ceil};
 ghost use Rattle.std.specs.Io.KnownBytes.{Appends};
 ghost use Rattle.text_fields.specs.Each.{each_from};
@@ -34,7 +34,8 @@ pub(crate) fn nearest(
 
 /// Whether a name of so many letters is near at this distance, and nearer than at another one.
 fn is_nearer(distance: usize, least: usize, letters: usize) -> bool
-    ensures { result ≡ (nat_lt distance least && nat_le distance (div_ceil letters 3)) }
+    ensures near { IsTrue result → (distance < least) × (distance ≤ div_ceil letters 3) }
+    ensures far { result ≡ false → distance ≤ div_ceil letters 3 → (least ≤ distance) × (distance < 2 ^ 64 - 1) }
 {
     distance < least && distance <= letters.div_ceil(3)
 }

@@ -6,7 +6,8 @@ ghost use Rattle.text_fields.specs.Each.{each_from};
 ghost use Rattle.elf_image.specs.{Image.ram_start, Checks.is_executable};
 ghost use Rattle.explanations.specs.ImageText.{entry_line};
 ghost use Rattle.explanations.specs.ImageRefusal.{count_line, begins_line, within_line, outside_file, wrong_size};
-ghost use Rattle.explanations.specs.ImageRefusal.{outside_ram, code_line, ram_wanted, would_do_line, before_code_line, enough_line};
+ghost use Rattle.explanations.specs.ImageRefusal.{outside_ram, code_line, ram_wanted};
+ghost use Rattle.explanations.specs.ImageRefusal.{would_do_line, before_code_line, enough_line};
 
 use crate::segments::{write_entry, write_ram, write_segment};
 use elf_image::{ProgramHeader, RAM_START, RamSize};
@@ -218,11 +219,7 @@ pub(crate) fn write_code<W: Write>(headers: &[ProgramHeader], out: &mut W) -> io
     Ok(())
 }
 
-fn write_where_code<W: Write>(
-    number: usize,
-    header: &ProgramHeader,
-    out: &mut W,
-) -> io::Result<()>
+fn write_where_code<W: Write>(number: usize, header: &ProgramHeader, out: &mut W) -> io::Result<()>
     ensures { OnOk result (Appends (W.contents out.old) (W.contents out.new) (code_line number header.now)) }
 {
     if header.flags % 2 == 1 {

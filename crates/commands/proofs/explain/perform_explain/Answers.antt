@@ -36,8 +36,7 @@ returns-in-None-clause-ended g c =
 
 pub returns-in-Some-2-clause-explained : goal.returns-in-Some-2-clause-explained
 returns-in-Some-2-clause-explained g c =
-    rw c.in_ok-file.was
-    (
+    rw c.in_ok-file.was (
       c.in-Some.settings,
       configured c.in_ok-settings.field-0 c.in-Some.settings c.args.config.now c.in-Some.is
           c.in_ok-settings.ensures.accepted,
