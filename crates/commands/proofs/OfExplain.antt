@@ -1,7 +1,7 @@
 -- The command `explain`: what is printed in parts, and which refusal of a line it is.
-use Rattle.std.specs.Prelude.{◌≡◌, ◌⊎◌, ℕ, ◌++◌, true, false, Bool, List, [], Option, Some, None, Result, Ok, Err}
+use Rattle.std.specs.Prelude.{◌≡◌, ℕ, ◌++◌, List, [], Option, Some, None, Ok, Err}
 use Rattle.std.specs.Prelude.{codes}
-use Rattle.std.proofs.Common.{refl, sym, ap, ◌∙◌, append_assoc, subst, IfSome, IfNone, IfOk}
+use Rattle.std.proofs.Common.{refl, sym, ap, ◌∙◌, append_assoc, subst, IfSome}
 use Rattle.std.proofs.lemmas.List.{append-nil}
 use mathlib.Core.Logic.{inl, inr}
 use Rattle.std.specs.Io.KnownBytes.{Appends}
@@ -12,7 +12,6 @@ use Rattle.explanations.specs.Explained.{IsRefusedBy, IsAccepted, IsConfigTold, 
 use Rattle.explanations.specs.{ConfigRefusal.IsConfigRefusedText, ImageRefusal.IsImageRefusedText}
 use Rattle.sim_inputs.specs.declared.explained.fault.NumberKey.TheVariants as key
 use Rattle.sim_inputs.specs.Explained.{default_of}
-use Rattle.explanations.specs.ConfigText.{accepted_config}
 use Rattle.sim_inputs.specs.{declared.settings.Settings.Settings}
 use Rattle.sim_inputs.specs.{Configuration.IsConfiguration, Configuration.with_harts, declared.line.Beside.Beside}
 use Rattle.sim_inputs.specs.declared.line.Beside.TheVariants as beside
@@ -27,9 +26,8 @@ use Rattle.command_parts.specs.declared.refused.Refused.TheVariants.{Turned}
 use Rattle.command_parts.specs.declared.refused.Refused.TheVariants.{Watch, Condition, ManyWatched, NoWord}
 use Rattle.command_parts.specs.declared.refused.Refused.TheVariants.{NoOutcome, NotStuck, NoAnswer, Litmus}
 use Rattle.command_parts.specs.declared.refused.Refused.TheVariants.{NothingToDraw, LongStory}
-use Rattle.command_parts.specs.declared.refused.Unread.{Unread}
 use Rattle.command_parts.specs.declared.refused.Unread.TheVariants as unread
-use Rattle.command_parts.specs.Refused.{refusal_of, IsFirstFailed, AreAccepted, IsImageRefusal, PassesAll}
+use Rattle.command_parts.specs.Refused.{IsImageRefusal, PassesAll}
 use Rattle.command_parts.specs.Inputs.{Read, OfProgram, BehindFile, IsConfigRefusal}
 use Rattle.commands.specs.Explain.{IsExplainRefusal, ExplainComesTo, TellsBoth, TellsCheck}
 use Rattle.commands.specs.Explain.{IsBehindRefused, TellsFault, TellsWithout}
