@@ -87,13 +87,13 @@ BetweenEnds chart drawn P =
 
 -- The numbers behind each event of the columns that are drawn, and the registers of each instruction, where they are
 -- wanted.
-abbrev pub are_counted : ChartCommand → Sheet → Bool
-are_counted chart sheet = chart.counters && nat_le sheet.view.from sheet.view.to
+abbrev pub are_counted : ChartCommand → View → Bool
+are_counted chart view = chart.counters && nat_le view.from view.to
 
-abbrev pub AreCountersIf : Bool → Setup → List Event → Sheet → List Counters → Type 0
-AreCountersIf false setup events sheet counters = counters ≡ []
-AreCountersIf true setup events sheet counters = AreCountersBetween setup events
-    (head sheet.columns sheet.view.from) (last sheet.columns sheet.view.to) counters
+abbrev pub AreCountersIf : Bool → Setup → List Event → List ℕ → View → List Counters → Type 0
+AreCountersIf false setup events columns view counters = counters ≡ []
+AreCountersIf true setup events columns view counters =
+    AreCountersBetween setup events (head columns view.from) (last columns view.to) counters
 
 abbrev pub AreRegistersIf : Bool → List Event → List (Option Registers) → Type 0
 AreRegistersIf false events registers = registers ≡ []
@@ -109,7 +109,8 @@ pub record IsDrawing (chart : ChartCommand) (setup : Setup) (drawn : Drawn) (she
   pub width_is : drawing.width ≡ chart.width
   pub harts_are : drawing.harts ≡ setup.harts
   pub marks_are : drawing.marks ≡ marks_where chart.names (table_of drawn.names.now) None
-  pub counters_are : AreCountersIf (are_counted chart sheet) setup drawn.events.now sheet drawing.counters
+  pub counters_are : AreCountersIf (are_counted chart sheet.view) setup drawn.events.now sheet.columns sheet.view
+      drawing.counters
   pub registers_are : AreRegistersIf chart.registers drawn.events.now drawing.registers
 
 -- What is printed of it: all of its text, unless it goes into a file.
