@@ -1,8 +1,9 @@
 //! What stands in which column of a chart.
 
-ghost use Rattle.std.specs.Prelude.{◌≡◌, ◌≤◌, IfOk, IfErr, length};
+ghost use Rattle.std.specs.Prelude.{◌≡◌, ◌≤◌, IfOk, IfErr, length, reverse};
 ghost use Rattle.numbers.specs.Sizes.{most_events};
 ghost use Rattle.chart_rows.specs.Order.{AreByFetch};
+ghost use Rattle.chart_rows.specs.Rows.{AreRows};
 ghost use Rattle.chart_columns.specs.Tables.{placed_view};
 ghost use Rattle.command_parts.specs.declared.refused.Refused.TheVariants.{Memory};
 ghost use Rattle.core_commands.specs.Chart.{AreColumnsAs, IsSheetOf, rows_as};
@@ -33,6 +34,7 @@ pub(crate) fn by_columns(
     alloc: Global,
 ) -> Result<Columned, Refused>
     requires few { length drawn.now.events.now ≤ most_events }
+    requires rows { AreRows (reverse drawn.now.events.now) drawn.now.rows.now }
     requires by_fetch { AreByFetch drawn.now.rows.now }
     ensures sheet { IfOk result
         (λ columned. IsSheetOf chart.now drawn.now view.now (sheet_of drawn.now columned)) }
@@ -40,7 +42,7 @@ pub(crate) fn by_columns(
     ensures refused { IfErr result (λ refused. refused ≡ Memory) }
 {
     let columns = columns_of(chart.columns, drawn, alloc)?;
-    let placed = match placed_rows(chart.columns, drawn.rows, &columns, alloc) {
+    let placed = match placed_rows(chart.columns, drawn, &columns, alloc) {
         Ok(placed) => placed,
         Err(refused) => return Err(refused),
     };
@@ -70,17 +72,21 @@ fn columns_of(wanted: Columns, drawn: &Drawn<'_>, alloc: Global) -> Result<Colum
 /// The rows with columns where the places of events were; none where both are the same.
 fn placed_rows(
     wanted: Columns,
-    rows: &[Row],
+    drawn: &Drawn<'_>,
     columns: &ColumnTable,
     alloc: Global,
 ) -> Result<Option<Vec<Row>>, Refused>
-    ensures rows { IfOk result (λ placed. placed_or rows.now placed ≡ rows_as wanted columns.now rows.now) }
-    ensures by_fetch { AreByFetch rows.now → IfOk result (λ placed. AreByFetch (placed_or rows.now placed)) }
+    requires columns { AreColumnsAs wanted drawn.now columns.now }
+    requires rows { AreRows (reverse drawn.now.events.now) drawn.now.rows.now }
+    requires by_fetch { AreByFetch drawn.now.rows.now }
+    ensures rows { IfOk result
+        (λ placed. placed_or drawn.now.rows.now placed ≡ rows_as wanted columns.now drawn.now.rows.now) }
+    ensures by_fetch { IfOk result (λ placed. AreByFetch (placed_or drawn.now.rows.now placed)) }
     ensures refused { IfErr result (λ refused. refused ≡ Memory) }
 {
     match wanted {
         Columns::Events => Ok(None),
-        Columns::Rounds => match columns.place_all(rows, alloc) {
+        Columns::Rounds => match columns.place_all(drawn.rows, alloc) {
             Ok(placed) => Ok(Some(placed)),
             Err(AllocError) => Err(Refused::Memory),
         },

@@ -1,8 +1,9 @@
 //! A chart as it is drawn: what stands in which column, and the text, the picture and the log that are made of it.
 
-ghost use Rattle.std.specs.Prelude.{◌≡◌, ◌≤◌, None, false, is_some, IfOk, IfErr, IfSome, IfNone, length};
+ghost use Rattle.std.specs.Prelude.{◌≡◌, ◌≤◌, None, false, is_some, IfOk, IfErr, IfSome, IfNone, length, reverse};
 ghost use Rattle.numbers.specs.Sizes.{most_events};
 ghost use Rattle.chart_rows.specs.Order.{AreByFetch};
+ghost use Rattle.chart_rows.specs.Rows.{AreRows};
 ghost use Rattle.sim_inputs.specs.Files.{written_beside_chart, written_chart};
 ghost use Rattle.charts.specs.Text.{chart_text};
 ghost use Rattle.command_parts.specs.declared.refused.Refused.TheVariants.{Memory};
@@ -40,6 +41,7 @@ pub(crate) fn made_of(
     alloc: Global,
 ) -> Result<Made, Refused>
     requires few { length drawn.now.events.now ≤ most_events }
+    requires rows { AreRows (reverse drawn.now.events.now) drawn.now.rows.now }
     requires by_fetch { AreByFetch drawn.now.rows.now }
     requires events { drawn.now.events.now ≡ traced.now.trace.now.events }
     requires history { AreHistory (setup_in traced.now) traced.now.trace.now.events }
@@ -133,10 +135,10 @@ fn second_text(
 }
 
 /// The text of a chart.
-fn text_of(
-    drawn: &Drawn<'_>,
-    columned: &Columned,
-    told: &Told,
+fn text_of<'a>(
+    drawn: &Drawn<'a>,
+    columned: &'a Columned,
+    told: &'a Told,
     chart: &ChartCommand<'_>,
     alloc: Global,
 ) -> Result<Vec<u8>, Refused>
@@ -164,11 +166,11 @@ fn text_of(
 }
 
 /// The picture of a chart.
-fn picture_of(
+fn picture_of<'a>(
     drawn: &Drawn<'_>,
     columned: &Columned,
-    told: &Told,
-    chart: &ChartCommand<'_>,
+    told: &'a Told,
+    chart: &ChartCommand<'a>,
     alloc: Global,
 ) -> Result<Vec<u8>, Refused>
     ensures refused { IfErr result (λ refused. refused ≡ Memory) }
