@@ -4,7 +4,7 @@ use Rattle.std.specs.Prelude.{Result, Ok, Err, IfOk}
 use Rattle.elf_image.specs.Image.{ProgramImage}
 use Rattle.std.proofs.Common.{sym, ap, subst, ◌∙◌, arith}
 use Rattle.std.proofs.lemmas.Grind.{common_steps}
-use Rattle.std.proofs.lemmas.List.{length-reverse}
+use Rattle.std.proofs.lemmas.List.{length-reverse, reverse-reverse}
 use Rattle.numbers.specs.Sizes.{most_events}
 use Rattle.events.specs.declared.event.Event.{Event}
 use Rattle.smt_model.specs.{Setup.Setup, Rules.is_legal}
@@ -18,8 +18,8 @@ use Rattle.scripts.specs.Session.{HaveCounted, AreGuessed, HasGuessed, unasked}
 use Rattle.address_labels.specs.Labels.{Marks, no_marks}
 use Rattle.chart_rows.specs.{declared.row.Row.Row, declared.view.View.View, Rows.AreHistory, Rows.AreRows}
 use Rattle.chart_rows.specs.{Order.AreByFetch, Views.view_of}
-use Rattle.charts.specs.{Text.chart_text}
-use Rattle.prompts.specs.{Kept.Kept, Kept.IsAskedAll, Printed.IsChartOf}
+use Rattle.charts.specs.{Text.chart_text, Drawings.Drawing}
+use Rattle.prompts.specs.{Kept.Kept, Kept.IsAskedAll, Printed.IsChartOf, Printed.plain_drawing}
 
 -- What was printed into a text of nothing is all of it.
 pub printed_all : (old new : List ℕ) (P : List ℕ → Type 0) → old ≡ [] → Prints (Some old) (Some new) P → P new
@@ -70,23 +70,31 @@ whole events few =
     ap (λ (n : ℕ). if events == 0 then record { from = 1; to = 0; hart = None }
     else record { from = 0; to = n; hart = None }) last
 
--- The chart of a core is drawn of that list, into a text of nothing.
-pub chart_is : (core : CoreView) (items events : List Event) (rows : List Row) (start text : List ℕ) (marks : Marks)
-    (view : View) (count : ℕ) → reverse items ≡ core.past → length items ≤ core.limit → core.limit ≤ most_events
-    → events ≡ items → AreRows (reverse events) rows → AreByFetch rows → start ≡ [] → marks ≡ no_marks
-    → view ≡ view_of 0 4294967295 None count → count ≡ length items
-    → (AreByFetch rows → Appends (Some start) (Some text) (chart_text 80 marks view rows)) → IsChartOf core text
-chart_is core items events rows start text marks view count past within small same are by_fetch none unmarked seen long
-    drawn =
+-- What is drawn in columns of events, into a text of nothing.
+pub drawn_plainly : (drawing : Drawing) (events : List Event) (rows : List Row) (start text : List ℕ)
+    → start ≡ [] → (AreByFetch rows → Appends (Some start) (Some text) (chart_text drawing)) → AreByFetch rows
+    → (plain : Drawing) → drawing ≡ plain → text ≡ chart_text plain
+drawn_plainly drawing events rows start text none drawn by_fetch plain same =
+    drawn by_fetch ∙ ap (λ s. s ++ chart_text drawing) none ∙ ap chart_text same
+
+-- The chart of a core is drawn of that list.
+pub chart_is : (core : CoreView) (items events : List Event) (rows : List Row) (text : List ℕ)
+    → reverse items ≡ core.past → length items ≤ core.limit → core.limit ≤ most_events
+    → events ≡ items → AreRows (reverse events) rows
+    → text ≡ chart_text (plain_drawing core.setup.harts (view_of 0 4294967295 None (length events)) events rows)
+    → IsChartOf core text
+chart_is core items events rows text past within small same are drawn =
     let as_long : length items ≡ length core.past = sym (length-reverse items) ∙ ap length past in
     let few : length core.past ≤ most_events = omega (arith, within, small, as_long) in
-    let all : view ≡ view_of 0 (length core.past - 1) None (length core.past) =
-    seen ∙ ap (λ (n : ℕ). view_of 0 4294967295 None n) (long ∙ as_long) ∙ whole (length core.past) few in
+    let all : view_of 0 4294967295 None (length events) ≡ view_of 0 (length core.past - 1) None (length core.past) =
+    ap (λ (n : ℕ). view_of 0 4294967295 None n) (ap length same ∙ as_long) ∙ whole (length core.past) few in
+    let turned : events ≡ reverse core.past = same ∙ (sym (reverse-reverse items) ∙ ap reverse past) in
     record {
       rows = rows;
       are_rows = subst (λ l. AreRows l rows) (ap reverse same ∙ past) are;
-      drawn = drawn by_fetch ∙ ap (λ s. s ++ chart_text 80 marks view rows) none
-          ∙ ap (λ m. chart_text 80 m view rows) unmarked ∙ ap (λ v. chart_text 80 no_marks v rows) all;
+      drawn = drawn ∙ ap (λ v. chart_text (plain_drawing core.setup.harts v events rows)) all
+          ∙ ap (λ l. chart_text (plain_drawing core.setup.harts (view_of 0 (length core.past - 1) None (length core.past))
+          l rows)) turned;
     }
 
 -- A copy of a configuration makes the same core.

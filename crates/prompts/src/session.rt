@@ -1,6 +1,6 @@
 //! The lines that are kept, the core that they come to, and what each line is answered.
 
-ghost use Rattle.std.specs.Prelude.{◌≡◌, ◌∷◌, ◌++◌, ◌-◌, [], IfOk, OnOk, OnErr, All, true, false};
+ghost use Rattle.std.specs.Prelude.{◌≡◌, ◌∷◌, ◌++◌, ◌-◌, ◌^◌, [], IfOk, OnOk, OnErr, All, true, false};
 ghost use Rattle.std.specs.Prelude.{None, Err, drop, length, take};
 ghost use Rattle.core_state.specs.Setup.{setup_of};
 ghost use Rattle.smt_model.specs.Setup.{is_accepted};
@@ -8,7 +8,9 @@ ghost use Rattle.scripts.specs.Script.{IsInRange};
 ghost use Rattle.reports.specs.Tables.{AreTablesOf};
 ghost use Rattle.prompts.specs.Kept.{AreInRange, kept_in};
 ghost use Rattle.prompts.specs.Typed.{IsRead};
-ghost use Rattle.prompts.specs.Printed.{AreLinesOfAsks, IsChartOf, help_text};
+ghost use Rattle.charts.specs.Text.{chart_text};
+ghost use Rattle.chart_rows.specs.{Order.AreByFetch, Views.view_of};
+ghost use Rattle.prompts.specs.Printed.{AreLinesOfAsks, IsChartOf, help_text, plain_drawing};
 ghost use Rattle.prompts.specs.Answers.{Follows, IsAnswered, answer_text, complaint_in};
 ghost use Rattle.prompts.specs.Session.{IsSession, standing_of};
 ghost use Rattle.prompts.specs.declared.session.Complaint.TheVariants.{Memory};
@@ -344,7 +346,12 @@ fn chart_by(
     rows: &[Row],
     columns: &ColumnTable,
     alloc: Global,
-) -> Result<Vec<u8>, AllocError> {
+) -> Result<Vec<u8>, AllocError>
+    requires by_fetch { AreByFetch rows.now }
+    requires events { columns.now ≡ [] }
+    ensures { IfOk result (λ text. text.items ≡ chart_text
+        (plain_drawing core.now.setup.harts (view_of 0 (2 ^ 32 - 1) None (length events.now)) events.now rows.now)) }
+{
     let chart = TextChart {
         rows,
         events,
