@@ -118,8 +118,7 @@ fn write_row<W: Write>(
     widths: &Widths,
     labels: &Labels<'_>,
     out: &mut W,
-) -> io::Result<()>
-{
+) -> io::Result<()> {
     if shown.shows(row) {
         return write_line(row, number, band, widths, labels, out);
     }

@@ -23,8 +23,7 @@ pub(crate) fn write_line<W: Write>(
     widths: &Widths,
     labels: &Labels<'_>,
     out: &mut W,
-) -> io::Result<()>
-{
+) -> io::Result<()> {
     let named = Named {
         labels,
         form: Form::Word,
@@ -64,8 +63,7 @@ fn write_remark<W: Write>(row: &Row, band: &Band, out: &mut W) -> io::Result<()>
 }
 
 /// What squashed a row in this band: its own refetch, or the event of another instruction.
-fn write_squashed<W: Write>(row: &Row, band: &Band, out: &mut W) -> io::Result<()>
-{
+fn write_squashed<W: Write>(row: &Row, band: &Band, out: &mut W) -> io::Result<()> {
     if row.refetched.is_none() {
         return write_by(row, band, out);
     }
