@@ -1,0 +1,3 @@
+mod Raising
+mod Counting
+mod Rounding

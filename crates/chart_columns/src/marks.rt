@@ -2,7 +2,7 @@
 
 ghost use Rattle.std.specs.Prelude.{◌≡◌};
 ghost use Rattle.chart_columns.specs.Rounds.{marks};
-ghost use Rattle.chart_columns.specs.Limits.{behind, behind_marks};
+ghost use Rattle.chart_columns.specs.Limits.{AreBehind, IsBehind};
 
 use chart_rows::Row;
 
@@ -32,18 +32,18 @@ pub(crate) fn marks_of(row: &Row) -> [Option<u32>; MOST_MARKS]
 
 /// One more than the place of the last of these marks before a place; 0 where there is none.
 pub(crate) fn behind_marks(marks: &[Option<u32>], place: u32) -> u32
-    ensures { result ≡ behind_marks place marks.now }
+    ensures { AreBehind place marks.now result }
 {
     let mut latest = 0;
-    for mark in marks {
-        latest = latest.max(behind(*mark, place));
+    for index in 0..marks.len() {
+        latest = latest.max(behind(marks[index], place));
     }
     latest
 }
 
 /// One more than the place of a mark, where it is before this place; else 0.
 fn behind(mark: Option<u32>, place: u32) -> u32
-    ensures { result ≡ behind place mark }
+    ensures { IsBehind place mark result }
 {
     match mark {
         Some(at) if at < place => at + 1,

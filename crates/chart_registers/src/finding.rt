@@ -1,9 +1,9 @@
 //! What an instruction finds in a core, as it is renamed.
 
-ghost use Rattle.std.specs.Prelude.{◌≡◌, ◌<◌, None, Option, IfSome, IfNone, if◌then◌else◌, ◌==◌};
+ghost use Rattle.std.specs.Prelude.{◌≡◌, ◌≢◌, ◌<◌, None, Some, IfSome, IfNone, slice_index_or};
 ghost use Rattle.events.specs.declared.event.Event.TheVariants.{Rename};
-ghost use Rattle.smt_model.specs.Kinds.{destination, first_source, second_source};
-ghost use Rattle.smt_model.specs.Rules.{refused};
+ghost use Rattle.smt_model.specs.{Basics.first, Flights.in_rename};
+ghost use Rattle.smt_model.specs.Rules.{is_legal, refused};
 ghost use Rattle.chart_registers.specs.Registers.{destination_by, found_by};
 ghost use Rattle.chart_registers.specs.Finding.{AreHolders, IsDecoded, NoneIsDecoded, held_source, other_source};
 
@@ -21,6 +21,7 @@ pub(crate) fn registers_by(
     seq: Seq,
     phys: Option<Phys>,
 ) -> Registers
+    requires legal { is_legal core.now.setup core.now.past }
     requires allowed { refused core.now.setup core.now.past (Rename actor seq phys) ≡ None }
     requires holders { AreHolders core.now.past holders.now }
     ensures { result ≡ found_by core.now.past actor seq phys }
@@ -101,19 +102,32 @@ fn decoded(core: &Core, seq: Seq) -> Option<(u8, Op)>
     ensures none { IfNone result (NoneIsDecoded core.now seq) }
 {
     for hart in 0..core.harts() {
-        if let Some(slot) = oldest_decoded(core, hart) {
-            if slot.seq == seq {
-                return Some((hart, slot.op));
-            }
+        if let Some(op) = decoded_in(core, hart, seq) {
+            return Some((hart, op));
         }
     }
     None
 }
 
+/// Its operation, where it is the oldest decoded one of hart `hart`.
+fn decoded_in(core: &Core, hart: u8, seq: Seq) -> Option<Op>
+    requires { hart < core.now.setup.harts }
+    ensures some { IfSome result (IsDecoded core.now seq hart) }
+    ensures none { IfNone result (first (in_rename core.now.past hart) ≢ Some seq) }
+{
+    let slot = oldest_decoded(core, hart)?;
+    if slot.seq == seq {
+        return Some(slot.op);
+    }
+    None
+}
+
 fn oldest_decoded(core: &Core, hart: u8) -> Option<Slot>
+    requires { hart < core.now.setup.harts }
     ensures some { IfSome result (λ slot. IsDecoded core.now slot.seq hart slot.op) }
+    ensures none { IfNone result (first (in_rename core.now.past hart) ≡ None) }
 {
     let (parts, _registers) = core.parts();
-    let state = parts.harts.as_slice().get(usize::from(hart))?;
-    state.rename_latch.as_slice().first().copied()
+    let latch = &parts.harts[usize::from(hart)].rename_latch;
+    latch.as_slice().get(0).copied()
 }

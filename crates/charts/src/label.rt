@@ -21,6 +21,8 @@ ghost use Rattle.charts.specs.Text.{
 
 use address_labels::{Form, Labels, label_width, write_labels};
 use arrayvec::ArrayString;
+use crate::registers::{registers_width, width_of, write_found};
+use chart_registers::Registers;
 use chart_rows::{Row, View};
 use rv_decode::{Op, decode_op};
 use std::io;
@@ -53,6 +55,8 @@ fn spelled(is_word: bool) -> ArrayString<40>
 pub(crate) struct Named<'a> {
     pub labels: &'a Labels<'a>,
     pub form: Form,
+    /// The registers of each instruction, by number; nothing where they aren't wanted.
+    pub registers: &'a [Option<Registers>],
 }
 
 /// How wide the parts of a row's name are.
@@ -66,11 +70,13 @@ pub(crate) struct Widths {
     instruction: u8,
     /// The characters of the longest labels beside a pc that is drawn, a space before each; 0 where none are wanted.
     labels: u32,
+    /// The characters of the longest registers of a row that is drawn, a space before each; 0 where none are wanted.
+    registers: u32,
 }
 
 impl Widths {
     /// Of the names of the rows that are drawn.
-    pub fn of(rows: &[Row], view: &View, labels: &Labels<'_>) -> Widths
+    pub fn of(rows: &[Row], view: &View, labels: &Labels<'_>, registers: &[Option<Registers>]) -> Widths
         ensures { result ≡ widths_of view.now (marks_of labels.now) rows.now }
     {
         let mut widths = Widths {
@@ -78,6 +84,7 @@ impl Widths {
             number: digits_of(rows.len().saturating_sub(1)),
             instruction: 0,
             labels: 0,
+            registers: registers_width(rows, view, registers),
         };
         for row in rows {
             if view.shows(row) {
@@ -96,6 +103,7 @@ impl Widths {
             number: self.number,
             instruction: self.instruction.max(instruction_of(row).len() as u8),
             labels: self.labels.max(label_width(labels, row.pc)),
+            registers: self.registers,
         }
     }
 
@@ -108,6 +116,7 @@ impl Widths {
             + usize::from(self.number)
             + usize::from(self.instruction)
             + self.labels as usize
+            + self.registers as usize
             + 12
     }
 
@@ -136,6 +145,7 @@ impl Widths {
         write_pc(row.pc, out)?;
         write_instruction(row, self.instruction, out)?;
         write_label(named, self.labels, row.pc, out)?;
+        write_field(named.registers, self.registers, number, out)?;
         out.write_all(b" ")
     }
 }
@@ -147,6 +157,18 @@ fn write_label<W: Write>(named: Named<'_>, places: u32, pc: u32, out: &mut W) ->
 {
     let width = label_width(named.labels, pc);
     write_labels(named.labels, named.form, pc, out)?;
+    write_spaces(places.saturating_sub(width) as usize, out)
+}
+
+/// Writes the registers of the row with this number, to the left of so many places.
+fn write_field<W: Write>(
+    registers: &[Option<Registers>],
+    places: u32,
+    number: usize,
+    out: &mut W,
+) -> io::Result<()> {
+    let width = width_of(registers, number);
+    write_found(registers, number, out)?;
     write_spaces(places.saturating_sub(width) as usize, out)
 }
 

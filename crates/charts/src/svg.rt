@@ -76,7 +76,7 @@ pub fn write_svg<W: Write>(
 ) -> io::Result<()> {
     // A band is no wider than what there is to see.
     let columns = chart.view.span().min(form.width).max(1);
-    let widths = Widths::of(chart.placed, &chart.view, &chart.labels);
+    let widths = Widths::of(chart.placed, &chart.view, &chart.labels, form.registers);
     let sheet = Sheet {
         chart,
         form,
@@ -85,6 +85,7 @@ pub fn write_svg<W: Write>(
         named: Named {
             labels: &chart.labels,
             form: Form::Drawn,
+            registers: form.registers,
         },
     };
     write_head(&sheet, out)?;

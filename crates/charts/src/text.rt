@@ -7,14 +7,18 @@ ghost use Rattle.chart_rows.specs.Views.{shows};
 ghost use Rattle.chart_rows.specs.Order.{AreByFetch, AreOver};
 ghost use Rattle.charts.specs.Text.{band_text, chart_text, columns_in, gap_before, row_text};
 
+mod counted;
 mod line;
 mod ruler;
 mod why;
 
-use crate::label::Widths;
-use address_labels::Labels;
+use crate::label::{Named, Widths};
+use address_labels::{Form, Labels};
 use chart_columns::ColumnTable;
+use chart_counters::Counters;
+use chart_registers::Registers;
 use chart_rows::{Band, Row, View, first_left};
+use counted::write_counters;
 use events::Event;
 use line::write_line;
 use ruler::write_ruler;
@@ -37,14 +41,21 @@ pub struct TextChart<'a> {
     pub view: View,
     /// How many characters a line has.
     pub width: u32,
+    /// How many harts the core has.
+    pub harts: u8,
     /// What is wanted beside the pcs.
     pub labels: Labels<'a>,
+    /// What is counted behind each event, from the first in the first column that is drawn on; nothing where it isn't
+    /// wanted.
+    pub counters: &'a [Counters],
+    /// The registers of each instruction, by number; nothing where they aren't wanted.
+    pub registers: &'a [Option<Registers>],
 }
 
 /// Writes a chart in lines of so many characters as are wanted (docs/FORMATS.md). An error is the one that `out`
 /// answered.
 pub fn write_text<W: Write>(chart: &TextChart<'_>, out: &mut W) -> io::Result<()> {
-    let widths = Widths::of(chart.rows, &chart.view, &chart.labels);
+    let widths = Widths::of(chart.rows, &chart.view, &chart.labels, chart.registers);
     let columns = columns_in(chart.width, &widths);
     let mut first = 0;
     for number in 0..chart.view.bands(columns) {
@@ -87,6 +98,7 @@ fn write_band<W: Write>(
 ) -> io::Result<()> {
     write_ruler(chart.columns, band, widths, out)?;
     write_rows(chart, first, band, widths, out)?;
+    write_counters(chart, band, widths, out)?;
     write_whys(chart, first, band, out)
 }
 
@@ -104,23 +116,28 @@ fn write_rows<W: Write>(
         if row.fetched > band.to {
             return Ok(());
         }
-        write_row(row, number, &shown, band, widths, &chart.labels, out)?;
+        write_row(chart, number, &shown, band, widths, out)?;
     }
     Ok(())
 }
 
 /// Writes the line of a row with this number, where something of it is shown.
 fn write_row<W: Write>(
-    row: &Row,
+    chart: &TextChart<'_>,
     number: usize,
     shown: &View,
     band: &Band,
     widths: &Widths,
-    labels: &Labels<'_>,
     out: &mut W,
 ) -> io::Result<()> {
+    let row = &chart.rows[number];
     if shown.shows(row) {
-        return write_line(row, number, band, widths, labels, out);
+        let named = Named {
+            labels: &chart.labels,
+            form: Form::Word,
+            registers: chart.registers,
+        };
+        return write_line(row, number, band, widths, named, out);
     }
     out.write_all(b"")
 }

@@ -9,6 +9,7 @@ use actors::Gate;
 use elf_image::Image;
 use litmus_cycles::ChoiceOnlooker;
 use outcomes::{Onlooker, Outcomes, OutcomesRefused, Until, find_outcomes};
+use reductions::Without;
 use std::alloc::Global;
 use watched_outcomes::Watch;
 
@@ -53,7 +54,16 @@ pub fn find_shown<G: Gate, U: Until>(
     ensures refused { IfErr result (IsRefusedFor image.now harts watch.now) }
 {
     gate.begin_search();
-    let found = find_outcomes(image, harts, watch, budget, &Shown { gate }, until, alloc);
+    let found = find_outcomes(
+        image,
+        harts,
+        watch,
+        budget,
+        Without::none(),
+        &Shown { gate },
+        until,
+        alloc,
+    );
     gate.end();
     found
 }

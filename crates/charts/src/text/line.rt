@@ -7,7 +7,6 @@ ghost use Rattle.chart_rows.specs.Cells.{letter_at};
 ghost use Rattle.charts.specs.Text.{by_text, cells_text, line_text, remark_text, replayed_text};
 
 use crate::label::{Named, Widths};
-use address_labels::{Form, Labels};
 use arrayvec::ArrayString;
 use chart_rows::{Band, Row};
 use std::io;
@@ -21,13 +20,10 @@ pub(crate) fn write_line<W: Write>(
     number: usize,
     band: &Band,
     widths: &Widths,
-    labels: &Labels<'_>,
+    named: Named<'_>,
     out: &mut W,
-) -> io::Result<()> {
-    let named = Named {
-        labels,
-        form: Form::Word,
-    };
+) -> io::Result<()>
+{
     widths.write_name(row, number, named, out)?;
     write_cells(row, band, out)?;
     write_remark(row, band, out)
@@ -63,7 +59,8 @@ fn write_remark<W: Write>(row: &Row, band: &Band, out: &mut W) -> io::Result<()>
 }
 
 /// What squashed a row in this band: its own refetch, or the event of another instruction.
-fn write_squashed<W: Write>(row: &Row, band: &Band, out: &mut W) -> io::Result<()> {
+fn write_squashed<W: Write>(row: &Row, band: &Band, out: &mut W) -> io::Result<()>
+{
     if row.refetched.is_none() {
         return write_by(row, band, out);
     }

@@ -1,0 +1,85 @@
+//! The registers of a row: what it was given for its destination, and what it found for its sources.
+
+use arrayvec::ArrayString;
+use chart_registers::{Destination, Registers, Source};
+use chart_rows::{Row, View};
+use std::io;
+use std::io::Write;
+use text_fields::push_decimal;
+
+/// How wide the registers are of the rows that are drawn.
+pub(crate) fn registers_width(
+    rows: &[Row],
+    view: &View,
+    registers: &[Option<Registers>],
+) -> u32 {
+    let mut width = 0;
+    for number in 0..rows.len() {
+        if view.shows(&rows[number]) {
+            width = width.max(width_of(registers, number));
+        }
+    }
+    width
+}
+
+/// How wide the registers of the row with this number are; 0 where none are known.
+pub(crate) fn width_of(registers: &[Option<Registers>], number: usize) -> u32 {
+    match registers_at(registers, number) {
+        Some(found) => {
+            let [first, second] = found.sources;
+            (destination_of(found.destination).len() + source_of(first).len() + source_of(second).len()) as u32
+        }
+        None => 0,
+    }
+}
+
+/// Writes the registers of the row with this number, a space before each.
+pub(crate) fn write_found<W: Write>(
+    registers: &[Option<Registers>],
+    number: usize,
+    out: &mut W,
+) -> io::Result<()> {
+    match registers_at(registers, number) {
+        Some(found) => write_registers(found, out),
+        None => out.write_all(b""),
+    }
+}
+
+fn write_registers<W: Write>(found: Registers, out: &mut W) -> io::Result<()> {
+    let [first, second] = found.sources;
+    out.write_all(destination_of(found.destination).as_bytes())?;
+    out.write_all(source_of(first).as_bytes())?;
+    out.write_all(source_of(second).as_bytes())
+}
+
+fn registers_at(registers: &[Option<Registers>], number: usize) -> Option<Registers> {
+    *registers.get(number)?
+}
+
+/// What was given for a destination, as ` x7>p33`.
+fn destination_of(destination: Option<Destination>) -> ArrayString<16> {
+    let mut text = ArrayString::new();
+    if let Some(given) = destination {
+        text.push_str(" x");
+        push_decimal(&mut text, given.register);
+        text.push_str(">p");
+        push_decimal(&mut text, given.physical);
+    }
+    text
+}
+
+/// What was found for a source, as ` x5<p31:4`, or ` x6<p6` where it is a register of the start.
+fn source_of(source: Option<Source>) -> ArrayString<24> {
+    let mut text = ArrayString::new();
+    if let Some(found) = source {
+        text.push_str(" x");
+        push_decimal(&mut text, found.register);
+        text.push_str("<p");
+        push_decimal(&mut text, found.physical);
+        if let Some(by) = found.by {
+            text.push_str(":");
+            push_decimal(&mut text, by);
+        }
+    }
+    text
+}
