@@ -1,6 +1,7 @@
 """What picture.py has to read from a picture of `smtsim chart --svg FILE`.
 
-    chart_picture.py IMAGE TRACE [--config FILE] [--from N] [--to N] [--hart H] [--width W] [--rounds] [--title TEXT] [--names]
+    chart_picture.py IMAGE TRACE [--config FILE] [--from N] [--to N] [--hart H] [--width W]
+                     [--columns rounds] [--title TEXT] [--names] [--registers] [--counters]
 
 Written from docs/FORMATS.md over the second judge's definitions, as chart.py: the rows are that one's, and what squashed an
 instruction, which store wrote between the looks of a load, and the rounds are found here anew.
@@ -12,7 +13,7 @@ import sys
 import chart
 import judge
 import labels
-from judge_inputs import Complete, Refetch, Refused, Retire
+from judge_inputs import Complete, Fetch, Refetch, Refused, Retire
 
 # The eight colours of Okabe and Ito for harts 0 to 7, with a grey for black.
 COLOURS = ("#e69f00", "#56b4e9", "#009e73", "#f0e442", "#0072b2", "#d55e00", "#cc79a7", "#888888")
@@ -25,13 +26,20 @@ def look_of(hart):
     return f"{COLOURS[hart % 8]}{' marked' if hart > 7 else ''}"
 
 
+def last_of(row):
+    """The last place in which something stands; none where it goes on."""
+    return row.at.get("T", row.at.get("X", row.squash))
+
+
 class Drawn:
     """A history in columns."""
 
     def __init__(self, history, asked):
         self.history, self.events, self.hart = history, history.events, asked.hart
+        chart.Row.columns = chart.Columns(history, False)
         self.rows = chart.rows_of(history)
-        self.columns = self.rounds() if asked.rounds else list(range(len(self.events)))
+        self.has_registers, self.has_counters = asked.registers, asked.counters
+        self.columns = self.rounds() if asked.columns == "rounds" else list(range(len(self.events)))
         last = min(asked.last, len(self.events) - 1)
         self.is_empty = asked.first > last
         if not self.is_empty:
@@ -64,7 +72,7 @@ class Drawn:
     def is_shown(self, row, first, last):
         if self.hart not in (None, row.hart) or self.column(row.at["F"]) > last:
             return False
-        return row.last() is None or first <= self.column(row.last())
+        return last_of(row) is None or first <= self.column(last_of(row))
 
     def shown(self):
         return [] if self.is_empty else [row for row in self.rows if self.is_shown(row, self.first, self.last)]
@@ -121,7 +129,7 @@ class Drawn:
         if row.squash is not None:
             letters.setdefault(self.column(row.squash), "x")
         over = min([self.column(p) for p in (row.at.get("T"), row.squash) if p is not None], default=last + 1)
-        stop = last if row.last() is None else min(last, self.column(row.last()))
+        stop = last if last_of(row) is None else min(last, self.column(last_of(row)))
         begin = self.column(row.at["F"])
         return "".join(letters.get(n, "." if begin < n < over else " ") for n in range(first, stop + 1))
 
@@ -168,13 +176,40 @@ class Drawn:
                 yield ruler.rstrip()
                 yield from (self.row_line(names, row, first, last) for row in rows)
                 yield from self.looks(first, last)
+                yield from self.strips(first, last)
                 yield ""
+
+    def strips(self, first, last):
+        """The heights of the strips of a band, 14 of the highest number behind an event that is drawn."""
+        if not self.has_counters:
+            return
+        history, counted = self.history, chart.Counted
+        counted.history = history
+        harts = [h for h in range(history.harts) if self.hart in (None, h)]
+        parts = [(f"ICOUNT {h}", lambda n, h=h: history.icount(n, h)) for h in harts] + [("chosen", None)]
+        parts += [(f"queue {unit}", lambda n, unit=unit: counted.waiting(n, unit)) for unit in ("alu", "mul", "mem")]
+        parts += [(f"in flight {h}", lambda n, h=h: len(history.flight(n, h))) for h in harts] + [("free", counted.free)]
+        drawn = [n + 1 for n, column in enumerate(self.columns) if self.first <= column <= self.last]
+        behind = [max(n for n, column in enumerate(self.columns) if column == one) + 1 for one in range(first, last + 1)]
+        for name, count in parts:
+            if count is None:
+                yield f"chosen: {self.chosen(first, last)}".rstrip()
+            else:
+                highest = max(map(count, drawn))
+                heights = [14 * count(n) // highest if highest else 0 for n in behind]
+                yield f"{name}, highest {highest}: {' '.join(map(str, heights))}"
+
+    def chosen(self, first, last):
+        harts = {column: f"{event.hart:x}" for event, column in zip(self.events, self.columns) if isinstance(event, Fetch)}
+        return "".join(harts.get(column, ".") for column in range(first, last + 1)).rstrip(".")
 
     def title(self, row):
         """What a browser shows of a row."""
         beside = "" if chart.Names.beside is None else " " + chart.Names.beside(row.fetch.pc)
         yield f"number {row.number} of hart {row.hart}: {row.fetch.pc:08x} {row.text}{beside}"
         yield ", ".join(f"{said} {row.at[letter]}" for letter, said in PLACES.items() if letter in row.at)
+        if self.has_registers and "R" in row.at:
+            yield from self.registers(row)
         if row.squash is not None:
             yield f"squashed {row.squash} by number {row.by}" + (f", handed back {row.at['X']}" if "X" in row.at else "")
             yield self.whole_cause(row)
@@ -187,6 +222,18 @@ class Drawn:
             yield "looked again: the same"
         yield f"number {self.writer(row).number} of hart {self.writer(row).hart} wrote at event {self.store(row)}"
 
+    def registers(self, row):
+        """What an instruction found as it was renamed."""
+        past = row.at["R"]
+        if self.events[past].phys is not None:
+            yield f"writes x{row.op.rd} to register {self.events[past].phys}"
+        for r in dict.fromkeys((row.op.first, row.op.second)):
+            if r:
+                by = self.history.source(past, row.hart, r, row.number)
+                physical = self.history.register_by(past, row.hart, r, by)
+                told = "as it was at the start" if by is None else f"which number {by} writes"
+                yield f"reads x{r} from register {physical}, {told}"
+
     def lines(self, asked):
         file_of = lambda name: name.rsplit("/", 1)[-1]
         yield asked.title or f"{file_of(asked.image)}, {file_of(asked.trace)}"
@@ -197,7 +244,7 @@ class Drawn:
         else:
             behind = max(n for n, column in enumerate(self.columns) if column == self.last)
             yield f"events {self.head(self.first)} to {behind} of {count}{one}"
-        yield ROUND if asked.rounds else "a column is an event: no cycles"
+        yield ROUND if asked.columns == "rounds" else "a column is an event: no cycles"
         for hart in sorted({row.hart for row in self.shown()}):
             yield f"hart {hart} {look_of(hart)}"
         if not self.is_empty:
@@ -215,9 +262,11 @@ def main(words):
     line.add_argument("--to", type=int, default=2**24, dest="last")
     line.add_argument("--hart", type=int)
     line.add_argument("--width", type=int, default=120)
-    line.add_argument("--rounds", action="store_true")
+    line.add_argument("--columns", choices=("events", "rounds"), default="events")
     line.add_argument("--title")
     line.add_argument("--names", action="store_true")
+    line.add_argument("--registers", action="store_true")
+    line.add_argument("--counters", action="store_true")
     asked = line.parse_args(words)
     try:
         image, settings, events = judge.read(asked.image, asked.trace, asked.config)
@@ -228,7 +277,9 @@ def main(words):
     with open(asked.image, "rb") as file:
         found = labels.Labels(file.read(), True, None)
     chart.Names.beside = found.name_of if asked.names else None
-    drawn = Drawn(judge.Rules(settings, image, events), asked)
+    history = judge.Rules(settings, image, events)
+    chart.Names.registers = (lambda row: chart.registers_of(history, row)) if asked.registers else None
+    drawn = Drawn(history, asked)
     sys.stdout.writelines(f"{said}\n" for said in drawn.lines(asked))
     return 0
 

@@ -297,7 +297,35 @@ class Picture:
             for path in arrows:
                 said, x, more, other = self.arrow(rows, path)
                 yield said, self.column(x), more, None if other is None else self.column(other)
+            yield from self.strips_below(last)
             yield ""
+
+    def strips_below(self, last):
+        """The strips right below a band whose last row has this base."""
+        base = last + STRIP + 1
+        for strip in self.strips:
+            name = strip.find(f"{SVG}text")
+            if number(name, "y") == base:
+                yield self.strip(strip, name.text, base)
+                base += STRIP
+
+    def strip(self, strip, name, base):
+        """The heights of a strip from its first column on; or its letters, a dot where there is none."""
+        level = strip.find(f"{SVG}path")
+        if level is None:
+            cells = {self.column(number(text, "x") - COLUMN // 2): text.text for text in strip.findall(f"{SVG}text")[1:]}
+            return f"{name}: {''.join(cells.get(k, '.') for k in range(max(cells, default=-1) + 1))}"
+        line, behind = strip.find(f"{SVG}line"), strip.findall(f"{SVG}text")[1]
+        left, right = number(line, "x1"), number(line, "x2")
+        at = points(level.get("d"))
+        if at[0] != [left, base] or [number(line, "y1"), number(line, "y2")] != [base, base] or left != self.left:
+            self.wrong.append(f"strip of {name} at {at[0]}")
+        if at[-2] != [right, base] or number(behind, "x") < right:
+            self.wrong.append(f"strip of {name} ends at {at[-2]}")
+        heights = [base - point[1] for point in at[2:-2:2]]
+        if [point[0] for point in at[2:-2:2]] != [left + COLUMN * (k + 1) for k in range(len(heights))]:
+            self.wrong.append(f"columns of the strip of {name}")
+        return f"{name}, {behind.text}: {' '.join(map(str, heights))}"
 
     def titles(self):
         said = {}
