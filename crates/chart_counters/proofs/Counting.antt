@@ -1,5 +1,5 @@
 -- How many registers are free.
-use Rattle.std.specs.Prelude.{◌≡◌, ℕ, List, length}
+use Rattle.std.specs.Prelude.{◌≡◌, List, length}
 use Rattle.std.proofs.Common.{refl}
 use Rattle.events.specs.declared.event.Event.{Event}
 use Rattle.core_parts.specs.Listed.{listed}

@@ -1,7 +1,7 @@
 -- A core that follows the events of a legal history, and the numbers that are read behind each.
-use Rattle.std.specs.Prelude.{◌≡◌, ℕ, zero, suc, ◌+◌, ◌-◌, ◌<◌, ◌≤◌, min, true, ◌&&◌, nat_le, List, [], ◌∷◌, ◌++◌, length, reverse}
+use Rattle.std.specs.Prelude.{◌≡◌, ℕ, zero, suc, ◌+◌, ◌-◌, ◌<◌, ◌≤◌, min, true, nat_le, List, [], ◌∷◌, ◌++◌, length, reverse}
 use Rattle.std.specs.Prelude.{take, drop, None, slice_index_or}
-use Rattle.std.proofs.Common.{◌∙◌, get_or, refl, sym, ap, subst, arith, inl, inr, length-append}
+use Rattle.std.proofs.Common.{◌∙◌, refl, sym, ap, subst, arith, inl, inr, length-append}
 use Rattle.std.proofs.lemmas.Bool.{Decides.nat_tests, cases_lt}
 use Rattle.std.proofs.lemmas.List.{reverse-append, take_more, take-append-drop, get_or_default}
 use Rattle.numbers.specs.Sizes.{are_core_sizes, most_events}
@@ -104,26 +104,26 @@ newest (x ∷ all) one d = newest all one d
 module _ (setup : Setup) (events : List Event) (from index : ℕ) (all : List Counters) (one : Counters) (f : Event)
     (inside : index < length events) (after : from ≤ index) (were : AreSoFar setup events from index all)
     (is : AreCounters setup (slice_index_or events index f ∷ past_at events index) (slice_index_or events index f) one)
-    where
-  last : (k : ℕ) (d : Counters) (e : Event) → k ≡ length all
-      → AreCounters setup (past_at events (from + k + 1)) (slice_index_or events (from + k) e)
-      (slice_index_or (all ++ one ∷ []) k d)
-  last k d e here =
-      let count = were.count in
-      let place : from + k ≡ index = omega (arith, count, here, after) in
-      let it : slice_index_or (all ++ one ∷ []) k d ≡ one =
-      ap (λ n. slice_index_or (all ++ one ∷ []) n d) here ∙ newest all one d in
-      rw (place, it, next events index f inside, get_or_default events index e f inside) is
+  where
+    last : (k : ℕ) (d : Counters) (e : Event) → k ≡ length all
+        → AreCounters setup (past_at events (from + k + 1)) (slice_index_or events (from + k) e)
+        (slice_index_or (all ++ one ∷ []) k d)
+    last k d e here =
+        let count = were.count in
+        let place : from + k ≡ index = omega (arith, count, here, after) in
+        let it : slice_index_or (all ++ one ∷ []) k d ≡ one =
+        ap (λ n. slice_index_or (all ++ one ∷ []) n d) here ∙ newest all one d in
+        rw (place, it, next events index f inside, get_or_default events index e f inside) is
 
-  pub one_more : AreSoFar setup events from (index + 1) (all ++ one ∷ [])
-  one_more = record {
-    count = let count = were.count in let more = length-append all (one ∷ []) in omega (arith, count, more, after);
-    each = λ k d e under.
-        elim (cases_lt k (length all)) [
-          | inl before ↦ rw (older all one d k before) (were.each k d e before)
-          | inr not_before ↦ last k d e (let more = length-append all (one ∷ []) in omega (arith, more, under, not_before))
-        ];
-  }
+    pub one_more : AreSoFar setup events from (index + 1) (all ++ one ∷ [])
+    one_more = record {
+      count = let count = were.count in let more = length-append all (one ∷ []) in omega (arith, count, more, after);
+      each = λ k d e under.
+          elim (cases_lt k (length all)) [
+            | inl before ↦ rw (older all one d k before) (were.each k d e before)
+            | inr not_before ↦ last k d e (let more = length-append all (one ∷ []) in omega (arith, more, under, not_before))
+          ];
+    }
 
 pub all_there : (setup : Setup) (events : List Event) (from to index : ℕ) (all : List Counters)
     → index ≡ min (length events) (to + 1) → AreSoFar setup events from index all

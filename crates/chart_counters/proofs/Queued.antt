@@ -1,13 +1,13 @@
 -- The entries of a queue, by the kind of unit that executes them.
 use Rattle.std.specs.Prelude.{◌≡◌, ℕ, suc, Bool, List, [], ◌∷◌, count_by, length, map, filter}
 use Rattle.std.specs.List.{AllByRecursion}
-use Rattle.std.proofs.Common.{◌∙◌, refl, sym, ap, inl, inr, arith}
+use Rattle.std.proofs.Common.{◌∙◌, refl, sym, ap, inl, inr}
 use Rattle.std.proofs.lemmas.Bool.{cases_Bool}
 use Rattle.std.proofs.lemmas.List.Sums.{length-filter}
 use Rattle.rv_instr.specs.{declared.op.UnitKind.UnitKind, Registers.op_unit, Registers.same_unit}
 use Rattle.events.specs.declared.event.Event.{Event}
 use Rattle.issue_queue.specs.{declared.entry.Entry.Entry, Queue.Queue}
-use Rattle.smt_model.specs.{Basics.how_many, Fates.op_at, Fates.op_of_fetched, Flights.queue}
+use Rattle.smt_model.specs.{Basics.how_many, Fates.op_at, Fates.op_of_fetched}
 use Rattle.smt_model.specs.{Picture.picture, Setup.Setup}
 use Rattle.core_parts.specs.Agree.{IsEntry, QueueAgrees}
 use Rattle.rv_instr.specs.declared.op.UnitKind.TheVariants.{Alu, Mul, Mem}

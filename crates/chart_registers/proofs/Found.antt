@@ -1,5 +1,5 @@
 -- What an instruction finds in a core before it is renamed is what the history says behind its rename.
-use Rattle.std.specs.Prelude.{◌≡◌, ◌≢◌, ℕ, ◌<◌, ◌≤◌, Bool, true, false, ◌==◌, List, [], ◌∷◌, Option, Some, None}
+use Rattle.std.specs.Prelude.{◌≡◌, ℕ, ◌<◌, ◌≤◌, true, false, ◌==◌, List, [], ◌∷◌, Option, Some, None}
 use Rattle.std.proofs.Common.{◌∙◌, refl, sym, ap, subst, inl, inr, arith}
 use Rattle.std.proofs.{lemmas.Bool.cases_Bool, lemmas.Bool.Decides.nat_tests}
 use Rattle.rv_instr.specs.declared.op.Op.{Op}
@@ -10,14 +10,12 @@ use Rattle.smt_model.specs.Fates.{Fetched, fate, fetching, is_in_flight, is_of, 
 use Rattle.smt_model.specs.{Flights.in_rename}
 use Rattle.smt_model.specs.Registers.{holder, mapped, source, source_register}
 use Rattle.smt_model.proofs.{Allowed.rename_allowed, Registers.Claims.IsRegister, Fates.Numbers.first_of_hart}
-use Rattle.smt_model.proofs.Fates.Numbers.{is_of-kept, known_below}
-use Rattle.smt_model.proofs.Fates.Moves.{rename_was}
 use Rattle.smt_laws.proofs.Registers.Below.{first_source-below, second_source-below}
 use Rattle.smt_laws.proofs.{Fates.Choosing.hart_there, Registers.Held.holder-Rename_other, Registers.Reading.seen-held}
 use Rattle.smt_laws.proofs.Steps.RenameMap.{mapped_claimed, not_taken, now-Rename, seen-Rename}
 use Rattle.core_state.specs.View.{CoreView}
-use Rattle.chart_registers.specs.declared.registers.{Registers.Registers, Source.Source}
-use Rattle.chart_registers.specs.Registers.{destination_by, found_by, registers_by, second_by, source_by}
+use Rattle.chart_registers.specs.declared.registers.{Destination.Destination, Registers.Registers, Source.Source}
+use Rattle.chart_registers.specs.Registers.{destination_by, found_by, second_by, source_by}
 use Rattle.chart_registers.specs.Finding.{NoneIsDecoded, held_source, other_source}
 
 module _ (setup : Setup) (past : List Event) (legal : is_legal setup past) (actor n : ℕ) (given : Option ℕ)
@@ -96,3 +94,23 @@ missing core legal actor n given ok none (Some f) fetched =
 pub never_missing : (core : CoreView) → is_legal core.setup core.past → (actor n : ℕ) (given : Option ℕ)
     → refused core.setup core.past (Rename actor n given) ≡ None → NoneIsDecoded core n → ⊥
 never_missing core legal actor n given ok none = missing core legal actor n given ok none (fetching core.past n) refl
+
+-- ---- As it is put together
+
+pub below_first : (r : ℕ) (op : Op) (f : Fetched) → op ≡ op_of_fetched (Some f) → r ≡ first_source op → r < 32
+below_first r op f is from =
+    subst (λ x. x < 32) (sym from) (rw is (first_source-below f.word))
+
+pub below_second : (r : ℕ) (op : Op) (f : Fetched) → op ≡ op_of_fetched (Some f) → r ≡ second_source op → r < 32
+below_second r op f is from =
+    subst (λ x. x < 32) (sym from) (rw is (second_source-below f.word))
+
+pub gathered : (past : List Event) (h : ℕ) (op : Op) (given : Option ℕ) (d : Option Destination) (a b : Option Source)
+    (x y : ℕ) → d ≡ destination_by op given → x ≡ first_source op → y ≡ second_source op
+    → a ≡ held_source past h x → b ≡ other_source past h x y
+    → ◌≡◌ {A = Registers} (record { destination = d; sources = a ∷ b ∷ [] })
+    (record {
+      destination = destination_by op given;
+      sources = held_source past h (first_source op) ∷ other_source past h (first_source op) (second_source op) ∷ [];
+    })
+gathered past h op given d a b x y of_d of_x of_y of_a of_b = rw (of_d, of_a, of_b, of_x, of_y) refl

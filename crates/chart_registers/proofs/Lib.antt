@@ -1,3 +1,4 @@
 mod Found
 mod Noted
 mod Latched
+mod Followed

@@ -1,12 +1,12 @@
 -- The tables behind one more event.
-use Rattle.std.specs.Prelude.{◌≡◌, ◌≢◌, ℕ, zero, suc, ◌+◌, ◌<◌, ◌≤◌, Bool, true, false, ◌==◌, List, [], ◌∷◌, ◌++◌}
-use Rattle.std.specs.Prelude.{length, set, slice_index_or, Option, Some, None}
+use Rattle.std.specs.Prelude.{◌≡◌, ◌≢◌, ℕ, zero, suc, ◌<◌, ◌≤◌, true, false, ◌==◌, List, [], ◌∷◌, ◌++◌}
+use Rattle.std.specs.Prelude.{length, set, slice_index_or, IfSome, Option, Some, None}
 use Rattle.std.proofs.Common.{◌∙◌, refl, sym, ap, subst, inl, inr, arith, length-append}
 use Rattle.std.proofs.lemmas.Bool.{Decides.nat_tests, cases_eq, cases_lt}
 use Rattle.std.proofs.lemmas.List.{length-set, get_or-set_same, get_or-set_other}
 use Rattle.events.specs.declared.event.Event.{Event}
 use Rattle.events.specs.declared.event.Event.TheVariants.{Fetch, Decode, Rename, Issue, Complete, Drop, Retire, Refetch}
-use Rattle.smt_model.specs.{Setup.Setup, Setup.registers_of, Rules.is_legal, Rules.refused, Fates.fetches}
+use Rattle.smt_model.specs.{Setup.Setup, Rules.is_legal, Rules.refused, Fates.fetches}
 use Rattle.smt_model.specs.Registers.{holder}
 use Rattle.smt_model.proofs.Fates.{Numbers.known_below, Moves.rename_was}
 use Rattle.smt_laws.proofs.{Registers.Held.holder-Rename_other, Registers.Held.holder-Rename_own, Registers.Namings.taken}
@@ -137,9 +137,11 @@ holders_renamed setup past legal actor n (Some q) ok holders room were p =
           (λ same. apart (sym (some_same q p same)))))
     ]
 
-pub given_inside : (setup : Setup) (past : List Event) (actor n q : ℕ) → refused setup past (Rename actor n (Some q)) ≡ None
-    → (holders : List (Option ℕ)) → HasRoom setup holders → q < length holders
-given_inside setup past actor n q ok holders room =
+pub given_inside : (setup : Setup) (past : List Event) (actor n : ℕ) (given : Option ℕ)
+    → refused setup past (Rename actor n given) ≡ None → (holders : List (Option ℕ)) → HasRoom setup holders
+    → IfSome given (λ p. p < length holders)
+given_inside setup past actor n None ok holders room = tt
+given_inside setup past actor n (Some q) ok holders room =
     let range = (taken setup past actor n q ok).in_range in omega (arith, range, room)
 
 pub renamed_inside : (setup : Setup) (past : List Event) → is_legal setup past → (actor n : ℕ) (given : Option ℕ)

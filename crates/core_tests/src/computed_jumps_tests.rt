@@ -18,7 +18,7 @@ const SHARED: u32 = 0x8000_1000;
 /// `addi x8,x6,0`, `addi x7,x12,0`, `jal x1,f`, `add x10,x8,x12`, `addi x17,x0,93`, `ecall`, and `f: addi x13,x0,1`,
 /// `amoadd.w x12,x13,(x5)`, `jalr x0,0(x1)`. Behind the first call x6 is read, behind the second one x8, and x7, what
 /// the first one found there, never.
-static CALLS: [u32; 12] = [
+pub static CALLS: [u32; 12] = [
     0x8000_12b7,
     0x0055_0313,
     0x01c0_00ef,
@@ -35,7 +35,7 @@ static CALLS: [u32; 12] = [
 
 /// How two harts end that call so: with 5, the hart's number and what its second call has found. One of them finds 3,
 /// and the other one 1 or 2.
-const CALLED: [(u32, u32); 4] = [(6, 9), (7, 9), (8, 7), (8, 8)];
+pub const CALLED: [(u32, u32); 4] = [(6, 9), (7, 9), (8, 7), (8, 8)];
 
 /// In a state each hart has both calls before it, or one, or is over, which are four states without a hart that is
 /// over; three in which one hart is, which found 1 or, where the other one has called too, 1 or 2, and three with the

@@ -1,6 +1,7 @@
 //! Searches of which reductions are left out: they end as all orders do, and visit as many states as the rules of each
 //! reduction say.
 
+use crate::computed_jumps_tests::{CALLED, CALLS};
 use crate::rows::holds;
 use crate::searched::{image_with, watching_nothing};
 use outcomes::{Extent, Outcomes, find_outcomes};
@@ -27,29 +28,6 @@ static LOCK: [u32; 12] = [
 ];
 
 const LOCKED: [(u32, u32); 2] = [(1, 2), (2, 1)];
-
-/// Each hart calls a function twice, which adds one to the shared word: `lui x5,0x80001`, `addi x6,x10,5`, `jal x1,f`,
-/// `addi x8,x6,0`, `addi x7,x12,0`, `jal x1,f`, `add x10,x8,x12`, `addi x17,x0,93`, `ecall`, and `f: addi x13,x0,1`,
-/// `amoadd.w x12,x13,(x5)`, `jalr x0,0(x1)`. Behind the first call x6 is read, behind the second one x8, and x7, what
-/// the first one found there, never.
-static CALLS: [u32; 12] = [
-    0x8000_12b7,
-    0x0055_0313,
-    0x01c0_00ef,
-    0x0003_0413,
-    0x0006_0393,
-    0x0100_00ef,
-    0x00c4_0533,
-    0x05d0_0893,
-    0x0000_0073,
-    0x0010_0693,
-    0x00d2_a62f,
-    0x0000_8067,
-];
-
-/// How two harts end that call so: with 5, the hart's number and what its second call has found. One of them finds 3,
-/// and the other one 1 or 2.
-const CALLED: [(u32, u32); 4] = [(6, 9), (7, 9), (8, 7), (8, 8)];
 
 /// Each hart stores by an SC without an LR, which fails: `lui x5,0x80001`, `sc.w x10,x11,(x5)`, `addi x17,x0,93`,
 /// `ecall`.
@@ -88,10 +66,9 @@ const STATES_OF_LOCK: [Row; 4] = [
     ("without both", NEITHER, 36),
 ];
 
-/// By hand: in a state each hart has both calls before it, or one, or is over, which are four states without a hart that
-/// is over; three in which one hart is, which found 1 or, where the other one has called too, 1 or 2, and three with
-/// the other one; and four ends. Where a jump may go anywhere x7 is kept behind the second call: then the ends are
-/// as they were, and before the end of the other one there are three more states.
+/// Of the two calls, by hand: without J x7 is kept, what a hart's first call has found, as a jump may go to where it is
+/// read. So there are three more states: where both have one call before them either may have found 0; and where one of
+/// them is over, which found 2, the other one, with a call before it, may have found 0 or 1.
 const STATES_OF_CALLS: [Row; 4] = [
     ("all", ALL, 14),
     ("without RX", NO_CONDITIONAL, 14),

@@ -10,9 +10,9 @@ use Rattle.condensed_machine.specs.declared.{begun.Begun.Begun, state.State.Stat
 use Rattle.outcomes.specs.Found.{Found}
 
 -- A machine of the program without these reductions, whose jumps by registers may go anywhere where that is said, has
--- gone from its start through the states that are told of, no two of which are alike to it.
-pub record IsSearchedWith (image : ProgramImage) (harts : ℕ) (without : Without) (anywhere : Bool) (found : Found)
-    : Type 0 where
+-- gone from its start through the states that are told of, within this budget; no two of them are alike to it.
+pub record IsSearchedWith (image : ProgramImage) (harts : ℕ) (without : Without) (anywhere : Bool) (budget : ℕ)
+    (found : Found) : Type 0 where
   pub machine : Machine
   pub sound : IsSound machine.program
   pub image_is : machine.program.image ≡ image
@@ -24,14 +24,13 @@ pub record IsSearchedWith (image : ProgramImage) (harts : ℕ) (without : Withou
   pub begins : HasBegun machine begun
   pub graph_of : Graph State Way
   pub known : (s : State) → Contains graph_of.states s → Knows machine s
-  pub budget : ℕ
   pub explored : IsExplored (Steps machine) machine.program.harts begun.state budget graph_of found.extent
   pub count : found.states ≡ length graph_of.states
 
 -- So it is where these are left out: jumps among them, if they are, in that jumps by registers may go anywhere.
-abbrev pub IsSearchedFor : ProgramImage → ℕ → Without → Found → Type 0
-IsSearchedFor image harts without found = IsSearchedWith image harts without without.jumps found
+abbrev pub IsSearchedFor : ProgramImage → ℕ → Without → ℕ → Found → Type 0
+IsSearchedFor image harts without budget found = IsSearchedWith image harts without without.jumps budget found
 
 -- And so it is of a machine of a program.
-abbrev pub IsSearchedBy : Program → Found → Type 0
-IsSearchedBy p found = IsSearchedWith p.image p.harts p.without p.targets.anywhere found
+abbrev pub IsSearchedBy : Program → ℕ → Found → Type 0
+IsSearchedBy p budget found = IsSearchedWith p.image p.harts p.without p.targets.anywhere budget found

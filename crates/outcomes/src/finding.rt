@@ -60,7 +60,7 @@ pub fn find_outcomes<O: Onlooker, U: Until>(
     ensures asked { IfOk result (IsAskedFor (U.Asks until.now)) }
     ensures present { OnOk result (AreThere harts watch.now × AreWords image.now watch.now) }
     ensures refused { IfErr result (IsRefusedFor image.now harts watch.now) }
-    ensures searched { IfOk result (IsSearchedFor image.now harts without) }
+    ensures searched { IfOk result (IsSearchedFor image.now harts without budget) }
 {
     if without.jumps {
         return find_anywhere(image, harts, watch, budget, without, onlooker, until, alloc);
@@ -85,7 +85,7 @@ fn find_in_passes<O: Onlooker, U: Until>(
     ensures asked { IfOk result (IsAskedFor (U.Asks until.now)) }
     ensures present { OnOk result (AreThere harts watch.now × AreWords image.now watch.now) }
     ensures refused { IfErr result (IsRefusedFor image.now harts watch.now) }
-    ensures searched { IfOk result (IsSearchedWith image.now harts without false) }
+    ensures searched { IfOk result (IsSearchedWith image.now harts without false budget) }
 {
     let Ok(mut targets) = first_jumps(image, harts, alloc) else {
         return Err(OutcomesRefused::Memory);
@@ -136,7 +136,7 @@ fn find_anywhere<O: Onlooker, U: Until>(
     ensures asked { IfOk result (IsAskedFor (U.Asks until.now)) }
     ensures present { OnOk result (AreThere harts watch.now × AreWords image.now watch.now) }
     ensures refused { IfErr result (IsRefusedFor image.now harts watch.now) }
-    ensures searched { IfOk result (IsSearchedWith image.now harts without true) }
+    ensures searched { IfOk result (IsSearchedWith image.now harts without true budget) }
 {
     let anywhere = Targets::anywhere(alloc);
     match find_within(
@@ -165,7 +165,7 @@ fn find_within<O: Onlooker, U: Until>(
     ensures asked { IfOk result (IsAskedFor (U.Asks until.now)) }
     ensures present { OnOk result (AreThere harts watch.now × AreWords image.now watch.now) }
     ensures unfound { IfErr result (IsUnfoundFor image.now harts watch.now targets) }
-    ensures searched { IfOk result (IsSearchedWith image.now harts without targets.anywhere) }
+    ensures searched { IfOk result (IsSearchedWith image.now harts without targets.anywhere budget) }
 {
     let machine = match new_machine(image, harts, watch, targets, without, alloc) {
         Ok(machine) => machine,
@@ -234,7 +234,7 @@ fn search_all<O: Onlooker, U: Until>(
         × AreWords machine.program.image watch.now) }
     ensures unfound { IfErr result (IsUnfoundFor machine.program.image machine.program.harts watch.now
         machine.program.targets) }
-    ensures searched { IfOk result (IsSearchedBy machine.program) }
+    ensures searched { IfOk result (IsSearchedBy machine.program budget) }
 {
     let mut machine = machine;
     match see_all(&mut machine, watch, budget, onlooker, until, alloc) {
@@ -364,7 +364,7 @@ fn outcomes_of<U: Until>(
     ensures found { IsListing machine.program.image machine.program.harts watch.now budget result }
     ensures once { IsOnce result }
     ensures asked { IsAskedFor (U.Asks until.now) result }
-    ensures searched { IsSearchedBy machine.program result }
+    ensures searched { IsSearchedBy machine.program budget result }
 {
     let harts = machine.harts();
     let Seen {

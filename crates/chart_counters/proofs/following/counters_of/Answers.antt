@@ -1,11 +1,10 @@
-use Rattle.std.proofs.Common.{◌∙◌, ap, subst, sym, arith, reverse, None, length}
-use Rattle.std.specs.Prelude.{◌≡◌, ◌<◌}
-use Rattle.smt_model.specs.Rules.{is_legal, refused}
+use Rattle.std.proofs.Common.{ap, subst, arith, length}
+use Rattle.std.specs.Prelude.{◌<◌}
 use Rattle.core_state.specs.View.{CoreView}
 use Rattle.core_state.specs.Setup.{setup_of}
 use Rattle.smt_model.specs.Setup.{Setup}
-use Rattle.chart_counters.specs.Counters.{AreCounters, AreCountersBetween, past_at}
-use Rattle.chart_counters.proofs.Followed.{AreSoFar, allowed_in, all_there, followed, none_yet, one_more, passed_over, read_in}
+use Rattle.chart_counters.specs.Counters.{AreCountersBetween}
+use Rattle.chart_counters.proofs.Followed.{allowed_in, all_there, followed, one_more, passed_over, read_in}
 use Rattle.chart_counters.proofs.following.counters_of.Goals as goal
 use Rattle.chart_counters.proofs.following.counters_of.Goals.{then-from-index+in_ok-push, else-from-index}
 

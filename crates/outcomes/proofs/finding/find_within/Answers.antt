@@ -23,6 +23,6 @@ returns-clause-present g c =
 
 pub returns-clause-searched : goal.returns-clause-searched
 returns-clause-searched g c =
-    if_searched_for c.in-Ok.machine.program _ _ c.args.without c.args.targets.anywhere c.search_all.result
+    if_searched_for c.in-Ok.machine.program _ _ c.args.without c.args.targets.anywhere c.args.budget c.search_all.result
     c.in-Ok.ensures.image c.in-Ok.ensures.harts c.in-Ok.ensures.without c.in-Ok.ensures.anywhere
     c.search_all.ensures.searched

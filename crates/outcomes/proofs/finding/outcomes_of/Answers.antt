@@ -45,7 +45,6 @@ returns-clause-searched g c = record {
   begins = c.requires.begun;
   graph_of = c.args.seen.explored.search;
   known = c.requires.known;
-  budget = c.args.budget;
   explored = c.requires.explored;
   count = refl;
 }

@@ -20,4 +20,4 @@ returns-in-Ok-clause-present g c =
 
 pub returns-in-Ok-clause-searched : goal.returns-in-Ok-clause-searched
 returns-in-Ok-clause-searched g c =
-    subst (λ p. IsSearchedBy p c.outcomes_of.result) c.see_all.ensures.program c.outcomes_of.ensures.searched
+    subst (λ p. IsSearchedBy p c.args.budget c.outcomes_of.result) c.see_all.ensures.program c.outcomes_of.ensures.searched
