@@ -22,7 +22,7 @@ const HART: u32 = 78;
 /// How many lines stand below the harts, without that of counters, and how wide they are.
 const LINES: u32 = 7;
 
-const WIDTH: u32 = 700;
+const WIDTH: u32 = 740;
 
 /// What letters and marks mean: from the top of the first of the lines on.
 const MARKS: &[u8] =
