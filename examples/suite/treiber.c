@@ -1,7 +1,8 @@
 /* Treiber's stack: each hart pushes its node, and pops one.
    From: R. K. Treiber, Systems programming: coping with parallelism, IBM Research Report RJ 5118, 1986.
    Harts: 2, 3, 4
-   Asked: --forall 'popped[{H}]=1' for H in 1..HARTS: no node is lost or popped twice: as many are popped as there are.
+   Asked: --forall '!h*!={N}' for N in 1..HARTS: of each node some hart says that it has popped it: so none is lost, and
+      none is popped twice.
    Wrong: -DTWO_STEPS: a push looks at the top and writes it in two steps.
    Wrong: -DREUSE -DHARTS=2 --never 'h1=2 & top=2': hart 0 pops one of two nodes, while hart 1 pops both and pushes its
       first one again: as hart 0 finds that on top it puts on top what was below it before (ABA), which hart 1 has
@@ -17,7 +18,7 @@
 #ifdef REUSE
 static shared top = 1, next[3] = {0, 2, 0};
 #else
-static shared top, next[HARTS + 1], popped[HARTS + 1];
+static shared top, next[HARTS + 1];
 #endif
 
 static inline void push(uint32_t node)
@@ -74,7 +75,6 @@ uint32_t run_hart(uint32_t hart, uint32_t harts)
     return kept;
 #else
     push(hart + 1);
-    popped[pop()] = 1;
-    return 0;
+    return pop();
 #endif
 }

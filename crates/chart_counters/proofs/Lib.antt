@@ -1,0 +1,4 @@
+mod Arrays
+mod Queued
+mod Followed
+mod Counting

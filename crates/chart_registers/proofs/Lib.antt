@@ -1,0 +1,4 @@
+mod Found
+mod Noted
+mod Latched
+mod Followed

@@ -1,14 +1,15 @@
 //! What an instruction finds in a core, as it is renamed.
 
-ghost use Rattle.std.specs.Prelude.{◌≡◌, ◌<◌, None, Option, IfSome, IfNone, if◌then◌else◌, ◌==◌};
+ghost use Rattle.std.specs.Prelude.{◌≡◌, ◌≢◌, ◌<◌, None, Some, IfSome, IfNone, slice_get, slice_index_or};
 ghost use Rattle.events.specs.declared.event.Event.TheVariants.{Rename};
-ghost use Rattle.smt_model.specs.Kinds.{destination, first_source, second_source};
-ghost use Rattle.smt_model.specs.Rules.{refused};
+ghost use Rattle.rv_instr.specs.Kinds.{first_source, second_source};
+ghost use Rattle.smt_model.specs.{Basics.first, Flights.in_rename};
+ghost use Rattle.smt_model.specs.Rules.{is_legal, refused};
 ghost use Rattle.chart_registers.specs.Registers.{destination_by, found_by};
 ghost use Rattle.chart_registers.specs.Finding.{AreHolders, IsDecoded, NoneIsDecoded, held_source, other_source};
 
 use crate::registers::{Destination, Registers, Source};
-use core_parts::Slot;
+use core_parts::{HartState, Slot};
 use numbers::{Phys, Reg, Seq};
 use rv_instr::Op;
 use smt_core::Core;
@@ -21,6 +22,7 @@ pub(crate) fn registers_by(
     seq: Seq,
     phys: Option<Phys>,
 ) -> Registers
+    requires legal { is_legal core.now.setup core.now.past }
     requires allowed { refused core.now.setup core.now.past (Rename actor seq phys) ≡ None }
     requires holders { AreHolders core.now.past holders.now }
     ensures { result ≡ found_by core.now.past actor seq phys }
@@ -28,7 +30,7 @@ pub(crate) fn registers_by(
     let Some((hart, op)) = decoded(core, seq) else {
         unreachable!();
     };
-    let (first, second) = (op.rs1().unwrap_or(0), op.rs2().unwrap_or(0));
+    let (first, second) = (first_source(op), second_source(op));
     Registers {
         destination: destination_of(op, phys),
         sources: [
@@ -36,6 +38,22 @@ pub(crate) fn registers_by(
             other_source_of(core, holders, hart, first, second),
         ],
     }
+}
+
+/// The first register that an operation reads; 0 where it reads none.
+#[tactic(auto, unfolding(rv_instr::specs::Kinds::first_source))]
+fn first_source(op: Op) -> Reg
+    ensures { result ≡ first_source op }
+{
+    op.rs1().unwrap_or(0)
+}
+
+/// The second register that an operation reads; 0 where it reads none.
+#[tactic(auto, unfolding(rv_instr::specs::Kinds::second_source))]
+fn second_source(op: Op) -> Reg
+    ensures { result ≡ second_source op }
+{
+    op.rs2().unwrap_or(0)
 }
 
 fn destination_of(op: Op, phys: Option<Phys>) -> Option<Destination>
@@ -101,19 +119,40 @@ fn decoded(core: &Core, seq: Seq) -> Option<(u8, Op)>
     ensures none { IfNone result (NoneIsDecoded core.now seq) }
 {
     for hart in 0..core.harts() {
-        if let Some(slot) = oldest_decoded(core, hart) {
-            if slot.seq == seq {
-                return Some((hart, slot.op));
-            }
+        if let Some(op) = decoded_in(core, hart, seq) {
+            return Some((hart, op));
         }
     }
     None
 }
 
+/// Its operation, where it is the oldest decoded one of hart `hart`.
+fn decoded_in(core: &Core, hart: u8, seq: Seq) -> Option<Op>
+    requires { hart < core.now.setup.harts }
+    ensures some { IfSome result (IsDecoded core.now seq hart) }
+    ensures none { IfNone result (first (in_rename core.now.past hart) ≢ Some seq) }
+{
+    let slot = oldest_decoded(core, hart)?;
+    if slot.seq == seq {
+        return Some(slot.op);
+    }
+    None
+}
+
 fn oldest_decoded(core: &Core, hart: u8) -> Option<Slot>
+    requires { hart < core.now.setup.harts }
     ensures some { IfSome result (λ slot. IsDecoded core.now slot.seq hart slot.op) }
+    ensures none { IfNone result (first (in_rename core.now.past hart) ≡ None) }
 {
     let (parts, _registers) = core.parts();
-    let state = parts.harts.as_slice().get(usize::from(hart))?;
-    state.rename_latch.as_slice().first().copied()
+    oldest_in(&parts.harts[usize::from(hart)])
+}
+
+fn oldest_in(state: &HartState) -> Option<Slot>
+    ensures { result ≡ slice_get state.now.rename_latch.items 0 }
+{
+    match state.rename_latch.as_slice().get(0) {
+        Some(slot) => Some(*slot),
+        None => None,
+    }
 }

@@ -9,6 +9,10 @@ mod actors_tests;
 #[cfg(test)]
 mod asking;
 #[cfg(test)]
+mod chart_counters_tests;
+#[cfg(test)]
+mod chart_registers_tests;
+#[cfg(test)]
 mod computed_jumps_tests;
 #[cfg(test)]
 mod condensed_machine_tests;
@@ -34,6 +38,8 @@ mod litmus_reading_tests;
 mod live_registers_tests;
 #[cfg(test)]
 mod outcomes_tests;
+#[cfg(test)]
+mod overtaken;
 #[cfg(test)]
 mod plain_run_tests;
 #[cfg(test)]

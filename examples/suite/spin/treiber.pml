@@ -5,10 +5,10 @@
 #define HARTS 2
 #endif
 
-byte top, below[HARTS + 1], popped[HARTS + 1], ended;
+byte top, below[HARTS + 1], popped[HARTS], ended;
 bool reserved[HARTS];
 
-hidden byte k;
+hidden byte k, other;
 
 inline write_top(node)
 {
@@ -16,11 +16,18 @@ inline write_top(node)
     for (k : 0 .. HARTS - 1) { reserved[k] = false }
 }
 
-/* Once all harts have ended, each node was popped. The last of them looks, in the step with which it ends. */
-inline ends()
+/* A hart ends in the step that pops its node. Once all have ended, they have popped as many nodes as there are: the last
+   of them looks, in that step. */
+inline ends(node)
 {
+    popped[_pid] = node;
     ended++;
-    for (k : 1 .. HARTS) { assert(ended < HARTS || popped[k] == 1) }
+    for (k : 0 .. HARTS - 1) {
+        for (other : 0 .. HARTS - 1) {
+            assert(ended < HARTS || k == other || popped[k] != popped[other])
+        }
+        assert(ended < HARTS || popped[k] != 0)
+    }
 }
 
 active [HARTS] proctype hart()
@@ -49,10 +56,9 @@ reserve_to_pop:
     :: d_step { top != seen -> seen = 0; under = 0 } -> goto look_to_pop
     fi;
     if
-    :: d_step { reserved[_pid] -> write_top(under); under = 0 }
+    :: d_step { reserved[_pid] -> write_top(under); under = 0; ends(seen); seen = 0 }
     :: !reserved[_pid] -> goto reserve_to_pop
     fi;
-    d_step { popped[seen] = 1; seen = 0; ends() };
 end_of_hart:
     false
 }

@@ -1,0 +1,215 @@
+//! The registers of the instructions of the example of a load that is overtaken, read by hand from its trace. Register
+//! x of hart h is at the start physical register 31 h + x - 1.
+
+use crate::overtaken::{overtaken_config, overtaken_events, overtaken_image};
+use crate::rows::holds;
+use chart_registers::{Destination, Registers, Source, registers_of};
+use history_check::check;
+use std::alloc::Global;
+
+/// An instruction, by its number and as a chart would have its registers.
+struct Row {
+    instruction: &'static str,
+    seq: usize,
+    registers: Option<Registers>,
+}
+
+static ROWS: [Row; 12] = [
+    Row {
+        instruction: "lui x6,0x80001",
+        seq: 0,
+        registers: Some(Registers {
+            destination: Some(Destination {
+                register: 6,
+                physical: 62,
+            }),
+            sources: [None, None],
+        }),
+    },
+    // x10 of hart 0 and of hart 1, as it is from the start.
+    Row {
+        instruction: "bne x10,x0,0x80000014",
+        seq: 2,
+        registers: Some(Registers {
+            destination: None,
+            sources: [
+                Some(Source {
+                    register: 10,
+                    physical: 9,
+                    by: None,
+                }),
+                None,
+            ],
+        }),
+    },
+    Row {
+        instruction: "bne x10,x0,0x80000014 of hart 1",
+        seq: 3,
+        registers: Some(Registers {
+            destination: None,
+            sources: [
+                Some(Source {
+                    register: 10,
+                    physical: 40,
+                    by: None,
+                }),
+                None,
+            ],
+        }),
+    },
+    Row {
+        instruction: "lw x5,0(x6)",
+        seq: 4,
+        registers: Some(Registers {
+            destination: Some(Destination {
+                register: 5,
+                physical: 63,
+            }),
+            sources: [
+                Some(Source {
+                    register: 6,
+                    physical: 62,
+                    by: Some(0),
+                }),
+                None,
+            ],
+        }),
+    },
+    Row {
+        instruction: "addi x7,x5,1",
+        seq: 6,
+        registers: Some(Registers {
+            destination: Some(Destination {
+                register: 7,
+                physical: 64,
+            }),
+            sources: [
+                Some(Source {
+                    register: 5,
+                    physical: 63,
+                    by: Some(4),
+                }),
+                None,
+            ],
+        }),
+    },
+    // It was squashed behind its rename, and has its registers for all that.
+    Row {
+        instruction: "addi x7,x5,1 of hart 1",
+        seq: 7,
+        registers: Some(Registers {
+            destination: Some(Destination {
+                register: 7,
+                physical: 67,
+            }),
+            sources: [
+                Some(Source {
+                    register: 5,
+                    physical: 66,
+                    by: Some(5),
+                }),
+                None,
+            ],
+        }),
+    },
+    // It was squashed before it was renamed.
+    Row {
+        instruction: "ebreak",
+        seq: 8,
+        registers: None,
+    },
+    // The register of the squashed number 5, given anew. x0 isn't listed.
+    Row {
+        instruction: "addi x5,x0,7",
+        seq: 9,
+        registers: Some(Registers {
+            destination: Some(Destination {
+                register: 5,
+                physical: 66,
+            }),
+            sources: [None, None],
+        }),
+    },
+    Row {
+        instruction: "addi x5,x0,7 of hart 0",
+        seq: 10,
+        registers: None,
+    },
+    // x5 isn't number 5's, which was squashed, nor number 4's, which is hart 0's.
+    Row {
+        instruction: "sw x5,0(x6)",
+        seq: 11,
+        registers: Some(Registers {
+            destination: None,
+            sources: [
+                Some(Source {
+                    register: 6,
+                    physical: 65,
+                    by: Some(1),
+                }),
+                Some(Source {
+                    register: 5,
+                    physical: 66,
+                    by: Some(9),
+                }),
+            ],
+        }),
+    },
+    Row {
+        instruction: "sw x0,0(x6)",
+        seq: 13,
+        registers: Some(Registers {
+            destination: None,
+            sources: [
+                Some(Source {
+                    register: 6,
+                    physical: 65,
+                    by: Some(1),
+                }),
+                None,
+            ],
+        }),
+    },
+    // Number 4 has retired, and what it wrote stands.
+    Row {
+        instruction: "addi x7,x5,1 again",
+        seq: 14,
+        registers: Some(Registers {
+            destination: Some(Destination {
+                register: 7,
+                physical: 4,
+            }),
+            sources: [
+                Some(Source {
+                    register: 5,
+                    physical: 63,
+                    by: Some(4),
+                }),
+                None,
+            ],
+        }),
+    },
+];
+
+fn table(alloc: Global) -> Option<Vec<Option<Registers>>> {
+    let image = overtaken_image(alloc)?;
+    let events = overtaken_events(alloc)?;
+    check(&image, overtaken_config(), events.as_slice(), alloc).ok()?;
+    registers_of(&image, overtaken_config(), events.as_slice(), alloc).ok()
+}
+
+#[test]
+fn registers_are_those_of_the_rename(rt: HostRuntime) {
+    let Some(table) = table(rt.alloc()) else {
+        holds(&rt, "the trace", false);
+        return;
+    };
+    assert!(rt; table.len() == 15);
+    for row in &ROWS {
+        let is = match table.as_slice().get(row.seq) {
+            Some(registers) => *registers == row.registers,
+            None => false,
+        };
+        holds(&rt, row.instruction, is);
+    }
+}
