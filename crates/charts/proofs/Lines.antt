@@ -1,5 +1,6 @@
 -- What the loops over a chart's rows and columns write.
-use Rattle.std.specs.Prelude.{filter, if◌then◌else◌}
+use Rattle.std.specs.Prelude.{filter, find, if◌then◌else◌, ◌&&◌}
+use Rattle.events.specs.declared.event.Event.{Event}
 use Rattle.std.specs.List.{range_with_len}
 use Rattle.std.specs.Io.KnownBytes.{Appends}
 use Rattle.std.proofs.Common.{◌≡◌, ℕ, zero, suc, ◌+◌, ◌-◌, ◌*◌, ◌/◌, ◌<◌, ◌≤◌, ◌^◌, min, Bool, true, false, not, nat_lt}
@@ -19,6 +20,7 @@ use Rattle.chart_rows.specs.{declared.row.Row.Row, declared.view.View.View, decl
 use Rattle.chart_columns.specs.Tables.{head}
 use Rattle.charts.specs.declared.label.Widths.{Widths}
 use Rattle.charts.specs.Drawings.{Drawing}
+use Rattle.charts.specs.Whys.{is_crossed, is_shown_crossed, why_text, whys_over}
 use Rattle.chart_rows.specs.Views.{shows, is_before, last_place, draws_hart}
 use Rattle.chart_rows.specs.Order.{AreByFetch, AreOver, AreOverBefore}
 use Rattle.chart_rows.specs.Cells.{letter_at}
@@ -282,3 +284,71 @@ chart_done drawing widths columns number old new wide beside all written =
     subst (λ (w : Widths). Appends old new (chart_by (columns_in drawing.width w) w drawing)) wide
     (subst (λ (n : ℕ). Appends old new (chart_by n widths drawing)) beside
     (subst (λ (n : ℕ). Appends old new (bands_text widths drawing columns n)) all written))
+
+-- ---- Why rows are squashed
+
+pub next_why : (rows : List Row) (events : List Event) (shown : View) (columns : List ℕ) (place last : ℕ)
+    → place ≤ last → whys_over rows events shown columns (places place last)
+    ≡ why_text rows events shown columns place ++ whys_over rows events shown columns (places (place + 1) last)
+next_why rows events shown columns place last below =
+    ap (whys_over rows events shown columns) (next_place place last below)
+
+pub no_why : (rows : List Row) (events : List Event) (shown : View) (columns : List ℕ) (place last : ℕ)
+    → last < place → whys_over rows events shown columns (places place last) ≡ []
+no_why rows events shown columns place last above =
+    ap (whys_over rows events shown columns) (no_place place last above)
+
+-- The first that is crossed: none before some row that isn't shown.
+unfound : {A : Type 0} (p : A → Bool) (xs : List A) → ((k : ℕ) (d : A) → k < length xs → p (get_or xs k d) ≡ false)
+    → find p xs ≡ None
+unfound p [] none = refl
+unfound p (x ∷ xs) none =
+    ap (λ b. if b then Some x else find p xs) (none 0 x (omega arith))
+    ∙ unfound p xs (λ k d below. none (suc k) d (omega (arith, below)))
+
+-- Where none of the first i passes: if the next one does, it is found, and if none of the others does, none is.
+pub found_at : {A : Type 0} (p : A → Bool) (xs : List A) (i : ℕ) (d : A) → i < length xs
+    → ((k : ℕ) (e : A) → k < i → p (get_or xs k e) ≡ false) → p (get_or xs i d) ≡ true
+    → find p xs ≡ Some (get_or xs i d)
+found_at p [] i d below none is = absurd (omega (arith, below))
+found_at p (x ∷ xs) zero d below none is = ap (λ b. if b then Some x else find p xs) is
+found_at p (x ∷ xs) (suc i) d below none is =
+    ap (λ b. if b then Some x else find p xs) (none 0 x (omega arith))
+    ∙ found_at p xs i d (omega (arith, below)) (λ k e before. none (suc k) e (omega (arith, before))) is
+
+module _ (rows : List Row) (shown : View) (column by : ℕ) where
+  uncrossed : (row : Row) → shows shown row ≡ false → is_shown_crossed shown column by row ≡ false
+  uncrossed row is = ap (λ b. is_crossed column by row && b) is ∙ none (is_crossed column by row)
+  where
+    none : (b : Bool) → (b && false) ≡ false
+    none true = refl
+    none false = refl
+
+  pub none_crossed_before : (first : ℕ) → AreOver rows first shown.from → (k : ℕ) (d : Row) → k < first
+      → is_shown_crossed shown column by (get_or rows k d) ≡ false
+  none_crossed_before first over k d before =
+      uncrossed (get_or rows k d) (ended (get_or rows k d) (over k d (omega arith) before))
+  where
+    ended : (row : Row) → is_before (last_place row) shown.from ≡ true → shows shown row ≡ false
+    ended row is = grind (arith, nat_tests, common_steps, is)
+
+  pub none_crossed : (i : ℕ) (e : Row) → AreByFetch rows → i < length rows → shown.to < (get_or rows i e).fetched
+      → ((k : ℕ) (d : Row) → k < i → is_shown_crossed shown column by (get_or rows k d) ≡ false)
+      → find (is_shown_crossed shown column by) rows ≡ None
+  none_crossed i e by_fetch inside late none = unfound (is_shown_crossed shown column by) rows (λ k d below.
+      elim (cases_lt k i) [
+        | inl before ↦ none k d before
+        | inr later ↦
+            let rises = by_fetch i k d later below in
+            let begins = subst (λ (row : Row). shown.to < row.fetched) (get_or_default rows i e d inside) late in
+            uncrossed (get_or rows k d) (unbegun (get_or rows k d) (omega (arith, rises, begins)))
+      ])
+  where
+    unbegun : (row : Row) → shown.to < row.fetched → shows shown row ≡ false
+    unbegun row is = grind (arith, nat_tests, common_steps, is)
+
+  pub none_at_all : (i : ℕ) → length rows ≤ i
+      → ((k : ℕ) (d : Row) → k < i → is_shown_crossed shown column by (get_or rows k d) ≡ false)
+      → find (is_shown_crossed shown column by) rows ≡ None
+  none_at_all i end none = unfound (is_shown_crossed shown column by) rows (λ k d below.
+      none k d (omega (arith, end, below)))
