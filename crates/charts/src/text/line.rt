@@ -24,7 +24,7 @@ pub(crate) fn write_line<W: Write>(
     named: Named<'_>,
     out: &mut W,
 ) -> io::Result<()>
-    requires { named.entry.form ≡ Word }
+    requires { named.form ≡ Word }
     ensures { OnOk result (Appends (W.contents out.old) (W.contents out.new)
         (line_text widths.now (marks_of named.entry.labels.now) named.entry.registers.now band.now number row.now)) }
 {
