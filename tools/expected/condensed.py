@@ -1,13 +1,16 @@
 """How many states `smtsim outcomes` visits, by docs/DEFINITIONS.md ("The plain machine with numbered states").
 
-    python3 tools/expected/condensed.py IMAGE [--config FILE] [--watch LIST]
-        the number of states
+    python3 tools/expected/condensed.py IMAGE [--config FILE] [--watch LIST] [--without LIST]
+        the number of states; without the reductions that are listed, as in RX,J
 
 A hart's step is followed by its local ones: where the code may not be written, those that touch no memory and put
 nothing out, those that end or stop the hart, and SC where the hart has no reservation at all. Behind it each other hart
 that has lost its reservation by the step makes its own, in turn. Then a register counts as 0 that is neither watched nor may be read
 yet, and the hart has no reservation that it can't use. Both are found by the code, with JALR going where it goes in some
 state that is visited; where the code may be written nothing is left out but of harts that don't go.
+
+Without RX no SC is a local step, none makes its own behind the step of another, and a hart that goes keeps its reservation.
+Without J both are found with JALR going anywhere, in one pass.
 
 The program comes to these jumps in passes, of which it makes some; here a search with JALR going anywhere finds them. A
 program with more jumps by registers than there are passes may visit more states.
@@ -25,6 +28,7 @@ from plain import Plain
 MOST_LOCAL_STEPS = 1000
 BRANCHES = ("beq", "bne", "blt", "bge", "bltu", "bgeu")
 REGISTERS = frozenset(range(1, 32))
+REDUCTIONS = ("RX", "J")
 GOING = ("going",)
 
 
@@ -45,10 +49,12 @@ def onward(i, pc):
 
 class Code:
     """Of each pc the registers that may be read yet, and whether a reservation may be used yet. The jumps are pairs of the
-    pc of a JALR and of where it goes; without them it may go anywhere."""
+    pc of a JALR and of where it goes; without them it may go anywhere. Where reservations are no matter of a reduction each
+    is kept, and no SC is followed."""
 
-    def __init__(self, made, jumps=None):
+    def __init__(self, made, jumps=None, reduces_reservations=True):
         self.is_written, self.live, self.kept = made.is_writable, {}, {}
+        self.reduces_reservations = reduces_reservations
         self.jumps, self.met = jumps, set()
         self.words = {pc: instruction(made, pc) for pc in range(made.code, made.code + len(made.code_bytes), 4)}
         while self.add_missing():
@@ -80,13 +86,13 @@ class Code:
         return self.is_written or register in self.live.get(pc, ())
 
     def is_kept(self, pc):
-        return self.is_written or self.kept.get(pc, False)
+        return self.is_written or not self.reduces_reservations or self.kept.get(pc, False)
 
 
 def is_local(code, machine, hart):
     """The hart's step ends or stops it, or neither touches memory nor puts a byte out, or is an SC of a hart without any reservation."""
     i = code.words.get(machine.pcs[hart], NO_WORD)
-    if i.kind == "sc" and machine.reserved[hart] is None:
+    if code.reduces_reservations and i.kind == "sc" and machine.reserved[hart] is None:
         return True
     tried = thawed(machine.image, frozen(machine))
     put = len(tried.output)
@@ -128,7 +134,7 @@ def visited(made, harts, columns, code):
             reserved = list(machine.reserved)
             code.step(machine, hart)
             settle(code, machine, hart, kept)
-            for other in range(harts):
+            for other in range(harts) if code.reduces_reservations else ():
                 if other != hart and reserved[other] is not None and machine.reserved[other] is None:
                     settle(code, machine, other, kept)
             there = state_of(machine)
@@ -138,13 +144,13 @@ def visited(made, harts, columns, code):
     return len(seen)
 
 
-def states(made, harts, columns=()):
-    """How many states are visited in the last pass, where this is watched."""
-    anywhere = Code(made)
+def states(made, harts, columns=(), without=()):
+    """How many states are visited in the last pass, where this is watched, without these reductions."""
+    anywhere = Code(made, None, "RX" not in without)
     count = visited(made, harts, columns, anywhere)
-    if anywhere.is_written or all(i.name != "jalr" for i in anywhere.words.values()):
+    if "J" in without or anywhere.is_written or all(i.name != "jalr" for i in anywhere.words.values()):
         return count
-    known = Code(made, anywhere.met)
+    known = Code(made, anywhere.met, "RX" not in without)
     count = visited(made, harts, columns, known)
     assert known.met == known.jumps, "the same jumps are met in each pass that is whole"
     return count
@@ -158,7 +164,11 @@ def main(words):
     settings = inputs.read_config(config)
     with open(words[0], "rb") as file:
         made = image.load(file.read(), settings["ram"])
-    print(states(made, settings["harts"], every_order.columns_of(options.get("--watch", ""), None)))
+    columns = every_order.columns_of(options.get("--watch", ""), None)
+    without = options["--without"].split(",") if "--without" in options else ()
+    if not set(without) <= set(REDUCTIONS):
+        sys.exit(f"no reduction: {options['--without']}")
+    print(states(made, settings["harts"], columns, without))
     return 0
 
 

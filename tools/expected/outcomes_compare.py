@@ -1,14 +1,17 @@
 """`smtsim outcomes` beside an enumeration of every order that leaves nothing out, on random programs.
 
-    python3 tools/expected/outcomes_compare.py PROGRAM [COUNT] [SEED]
+    python3 tools/expected/outcomes_compare.py PROGRAM [COUNT] [SEED] [--without]
 
 Small programs of two or three harts: loads, stores, LR, SC, AMO, branches, output, ends and stops; one in
 three also writes its own code, and one in three calls a function from two places, or jumps to what a register holds. What is
 printed has to be the same, and the number of states that of `condensed.py`.
-Each order that is asked for has to end as its outcome says, on the plain machine. Programs of more than 20,000 states are
+Each order that is asked for has to end as its outcome says, on the plain machine. With --without each program is searched
+four times: with all reductions, without each, and without any; the outcomes have to be the same each time, and the number of
+states that of `condensed.py` without the same ones. Programs of more than 20,000 states are
 left out. Prints how many agree, and ends with status 1 where one doesn't.
 """
 
+import itertools
 import os
 import random
 import subprocess
@@ -146,8 +149,23 @@ def ends_so(made, harts, order, wanted, watch, exists):
     return not machine.going() and every_order.line(found, columns) == wanted
 
 
-def agrees(program, folder, seed, k):
-    """Whether the program says the same of program k; None where it has too many states."""
+def is_told(folder, line, wanted, counted):
+    """Whether these lines are printed, and this number of states, and the status is theirs."""
+    done = subprocess.run(line, cwd=folder, capture_output=True, text=True, check=False)
+    found = [text for text in done.stdout.splitlines() if not text.startswith("states ")]
+    status = 1 if wanted[-1] == "exists: no" else 0
+    return (found, done.stderr, done.returncode) == (wanted, "", status) and f"states {counted}" in done.stdout.splitlines()
+
+
+def left_out():
+    """Each list of reductions that a search may be without, from none on."""
+    names = condensed.REDUCTIONS
+    return [some for count in range(len(names) + 1) for some in itertools.combinations(names, count)]
+
+
+def agrees(program, folder, seed, k, lists):
+    """Whether the program says the same of program k, without each of these lists of reductions; None where it has too many
+    states."""
     harts, file, watch, exists = inputs_of(seed, k)
     made = image.load(file, 4096)
     try:
@@ -160,14 +178,11 @@ def agrees(program, folder, seed, k):
     line = [program, "outcomes", "image.elf", "--config", "config"]
     line += ["--watch", watch] if watch else []
     line += ["--exists", exists] if exists is not None else []
-    done = subprocess.run(line, cwd=folder, capture_output=True, text=True, check=False)
-    found = [text for text in done.stdout.splitlines() if not text.startswith("states ")]
-    status = 1 if wanted[-1] == "exists: no" else 0
-    if (found, done.stderr, done.returncode) != (wanted, "", status):
-        return False
-    counted = condensed.states(made, harts, every_order.columns_of(watch, exists))
-    if f"states {counted}" not in done.stdout.splitlines():
-        return False
+    columns = every_order.columns_of(watch, exists)
+    for without in lists:
+        counted = condensed.states(made, harts, columns, without)
+        if not is_told(folder, [*line, "--without", ",".join(without)] if without else line, wanted, counted):
+            return False
     count = next(n for n, text in enumerate(wanted) if text.startswith("outcomes "))
     for place in random.Random(k).sample(range(count), min(count, 2)):
         subprocess.run([*line, "--outcome", str(place + 1), "--witness", "order"], cwd=folder, capture_output=True, check=False)
@@ -183,12 +198,14 @@ def main(words):
     if not words:
         print(__doc__, file=sys.stderr)
         return 2
+    lists = left_out() if "--without" in words else [()]
+    words = [word for word in words if word != "--without"]
     program = os.path.abspath(words[0])
     count, seed = int(words[1]) if len(words) > 1 else 500, int(words[2]) if len(words) > 2 else 1
     same, differ, k = 0, 0, 0
     with tempfile.TemporaryDirectory() as folder:
         while same + differ < count:
-            answer = agrees(program, folder, seed, k)
+            answer = agrees(program, folder, seed, k, lists)
             if answer is False:
                 print(f"program {k} of seed {seed} differs")
             same, differ, k = same + (answer is True), differ + (answer is False), k + 1

@@ -285,11 +285,14 @@ def some_schedule(r):
 
 
 def some_outcomes(r):
+    """A search, every second time without some reductions, which changes no outcome."""
     harts, file, watch, exists = outcomes_compare.inputs_of(r.getrandbits(64), 0)
     files = {"image.elf": file, "config.toml": f"harts = {harts}\nram = 4096\n".encode()}
     line = ["outcomes", "image.elf", "--config", "config.toml"]
     line += ["--watch", watch] if watch else []
-    return files, line + (["--exists", exists] if exists is not None else [])
+    line += ["--exists", exists] if exists is not None else []
+    without = r.choice(([], ["RX"], ["J"], ["RX", "J"], ["J", "RX"])) if r.random() < 0.5 else []
+    return files, line + (["--without", ",".join(without)] if without else [])
 
 
 def some_litmus(r):

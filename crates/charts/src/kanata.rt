@@ -3,7 +3,7 @@
 mod lines;
 mod waits;
 
-use address_labels::Labels;
+use crate::chart::Chart;
 use chart_rows::{Row, View};
 use events::Event;
 use lines::Log;
@@ -12,27 +12,21 @@ use std::io;
 use std::io::{Error, ErrorKind, Write};
 use waits::write_waits;
 
-/// Writes the log that Konata reads, Kanata 0004 (docs/FORMATS.md), of the instructions that the view
-/// shows, each of them whole, with what is wanted beside its pc: a cycle is an event. The rows are those
-/// of these events. An error is the one that `out` answered, or want of memory.
-pub fn write_kanata<W: Write>(
-    rows: &[Row],
-    events: &[Event],
-    view: &View,
-    labels: &Labels<'_>,
-    out: &mut W,
-    alloc: Global,
-) -> io::Result<()> {
-    let Ok(ids) = ids_of(rows, view, alloc) else {
+/// Writes the log that Konata reads, Kanata 0004 (docs/FORMATS.md), of the instructions that the view of a chart
+/// shows, each of them whole, with what is wanted beside its pc: a cycle is a column. An error is the one that `out`
+/// answered, or want of memory.
+pub fn write_kanata<W: Write>(chart: &Chart<'_>, out: &mut W, alloc: Global) -> io::Result<()> {
+    let Ok(ids) = ids_of(chart.placed, &chart.view, alloc) else {
         return Err(Error::from(ErrorKind::OutOfMemory));
     };
-    let mut log = Log::new(first_place(rows, view), labels);
+    let first = first_column(chart.placed, &chart.view);
+    let mut log = Log::new(first, chart.columns, &chart.labels);
     log.write_head(out)?;
-    for place in 0..events.len() {
+    for place in 0..chart.events.len() {
         write_event(
-            rows,
+            chart.rows,
             ids.as_slice(),
-            &events[place],
+            &chart.events[place],
             u32::try_from(place).unwrap_or(u32::MAX),
             &mut log,
             out,
@@ -43,10 +37,10 @@ pub fn write_kanata<W: Write>(
 
 /// What stands in the log in place of each instruction's number: how many with a lower one are shown,
 /// or nothing where it isn't shown itself.
-fn ids_of(rows: &[Row], view: &View, alloc: Global) -> Result<Vec<Option<u32>>, AllocError> {
+fn ids_of(placed: &[Row], view: &View, alloc: Global) -> Result<Vec<Option<u32>>, AllocError> {
     let mut ids = Vec::new(alloc);
     let mut next = 0_u32;
-    for row in rows {
+    for row in placed {
         if view.shows(row) {
             ids.push(Some(next))?;
             next = next.saturating_add(1);
@@ -57,9 +51,9 @@ fn ids_of(rows: &[Row], view: &View, alloc: Global) -> Result<Vec<Option<u32>>, 
     Ok(ids)
 }
 
-/// Where the first instruction that is shown was fetched; 0 where none is.
-fn first_place(rows: &[Row], view: &View) -> u32 {
-    for row in rows {
+/// The column in which the first instruction that is shown was fetched; 0 where none is.
+fn first_column(placed: &[Row], view: &View) -> u32 {
+    for row in placed {
         if view.shows(row) {
             return row.fetched;
         }

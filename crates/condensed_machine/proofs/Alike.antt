@@ -6,9 +6,10 @@ use Rattle.std.proofs.lemmas.Bool.{cases_lt, Decides.nat_tests}
 use Rattle.smt_model.specs.{Setup.first_number, declared.config.Status.TheVariants.Going}
 use Rattle.smt_model.specs.Plain.{Plain, is_going_status, read_register}
 use Rattle.outcome_laws.specs.Live.{AreAlike, matters, reservation_matters}
-use Rattle.live_registers.specs.Table.{live_of, kept_of}
+use Rattle.live_registers.specs.Table.{live_of}
 use Rattle.changed_memory.specs.Shared.{Shared, byte_at, reserved_at}
 use Rattle.sc_machine.specs.{Harts.HartAgrees, declared.hart.Hart.Hart}
+use Rattle.condensed_machine.specs.Machine.{keeps_at}
 use Rattle.condensed_machine.specs.{Settling.HartsStay, Resting.IsRested, Resting.is_watched, Resting.is_kept}
 use Rattle.condensed_machine.specs.{Machine.Program, Machine.tables_of, Decoded.Decoded, Decoded.full, Decoded.hart_at}
 use Rattle.condensed_machine.specs.{Decoded.register_of, Decoded.pc_of, Decoded.status_of}
@@ -23,7 +24,7 @@ pub record IsKeptAs (p : Program) (s : Plain) (h : ℕ) (y : Hart) : Type 0 wher
 
 -- What the harts share is so in s, but for reservations that nobody uses again.
 pub record SharedIsKept (p : Program) (s : Plain) (shared : Shared) : Type 0 where
-  pub reserved : (h : ℕ) → reservation_matters (kept_of p.live) s h ≡ true → reserved_at shared h ≡ s.reserved h
+  pub reserved : (h : ℕ) → reservation_matters (keeps_at p) s h ≡ true → reserved_at shared h ≡ s.reserved h
   pub bytes : (a : ℕ) → byte_at p.image shared a ≡ s.bytes a
   pub output : shared.output ≡ s.output
 

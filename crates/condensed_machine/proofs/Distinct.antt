@@ -13,11 +13,12 @@ use Rattle.smt_model.specs.{Plain.is_going_status, declared.config.Status.Status
 use Rattle.smt_model.specs.declared.config.Status.TheVariants.{Going, Ended, Stopped}
 use Rattle.smt_model.specs.contracts.config.StatusPartialEq.TheImpl.{eq-value as same_status}
 use Rattle.outcome_laws.specs.Live.{AreAlike, reservation_matters}
-use Rattle.live_registers.specs.Table.{kept_of, live_of}
+use Rattle.live_registers.specs.Table.{live_of}
 use Rattle.sc_machine.specs.declared.hart.Hart.{Hart}
 use Rattle.sc_machine.specs.contracts.hart.HartPartialEq.TheImpl.{eq-value as same_hart}
 use Rattle.changed_memory.specs.{Canonical.EqualMemoriesAreOneList, Same.is_same, SameLaws.same_is_equivalence}
 use Rattle.changed_memory.specs.Shared.{Shared, byte_at, reserved_at}
+use Rattle.condensed_machine.specs.Machine.{keeps_at}
 use Rattle.condensed_machine.specs.{Machine.Machine, Machine.Program, declared.state.State.State}
 use Rattle.condensed_machine.specs.Decoded.{Knows, decoded, hart_at, hart_in, no_hart, no_shared, numbers_of}
 use Rattle.condensed_machine.specs.Decoded.{shared_at, state_of}
@@ -226,7 +227,7 @@ module _ (m : Machine) (few : m.program.harts ≤ most_harts) (harts : IsDistinc
 
     reserved_same : (h : ℕ) → reserved_at (decoded m s).shared h ≡ reserved_at (decoded m t).shared h
     reserved_same h =
-        let kept = kept_of m.program.live in
+        let kept = keeps_at m.program in
         elim (cases_Bool (reservation_matters kept (state_of m s) h)) [
           | inl matter ↦ same.reserved h matter
           | inr none ↦

@@ -7,7 +7,7 @@ use Rattle.std.proofs.lemmas.List.{get_or-set_other, get_or-set_same, length-set
 use Rattle.std.proofs.lemmas.Option.{get_or_from_slice_get, slice_get_within}
 use Rattle.smt_model.specs.{Setup.Setup, Plain.Plain, Plain.is_going_status}
 use Rattle.outcome_laws.specs.{Live.reservation_matters, Paths.HasItsCode}
-use Rattle.live_registers.specs.Table.{kept_of}
+use Rattle.condensed_machine.specs.Machine.{keeps_at}
 use Rattle.sc_machine.specs.declared.hart.Hart.{Hart}
 use Rattle.changed_memory.specs.Shared.{Shared, reserved_at}
 use Rattle.condensed_machine.specs.Machine.{HasCode, Grows, IsSound, Machine, Program, tables_of}
@@ -75,12 +75,12 @@ module _ (p : Program) (d e : Decoded) (g steps : ℕ) (y : Hart) (inside : g < 
         })
 
   -- A reservation that isn't kept isn't there.
-  other_dropped : AreDropped p d → (k : ℕ) → k ≢ g → reservation_matters (kept_of p.live) (full p e) k ≡ false
+  other_dropped : AreDropped p d → (k : ℕ) → k ≢ g → reservation_matters (keeps_at p) (full p e) k ≡ false
       → reserved_at e.shared k ≡ None
   other_dropped was k other lost =
       ap (λ (shared : Shared). reserved_at shared k) rested.shared
       ∙ was k (
-      ap (λ x. is_going_status (status_of p k x) && kept_of p.live (pc_of p k x)) (sym (rested.others k other)) ∙ lost
+      ap (λ x. is_going_status (status_of p k x) && keeps_at p (pc_of p k x)) (sym (rested.others k other)) ∙ lost
       )
 
   pub rests_dropped : AreDropped p d → AreDropped p e

@@ -42,7 +42,7 @@ pub record HasDone (m n : Machine) (s t : State) (h steps : ℕ) (x : Hart) (com
   pub numbered : numbers_of n t ≡ slice_set (numbers_of m s) h number
   pub near : length t.near ≡ near_harts
   pub far : t.far < length n.far_harts
-  pub shared : IsSharedAfter m.program.image h done (keeps_reservation m.program.live moved) common n.shared_states
+  pub shared : IsSharedAfter m.program.image h done (keeps_reservation m.program moved) common n.shared_states
       t.shared
 
 abbrev pub HasMoved : Machine → Machine → State → State → ℕ → ℕ → Type 0
@@ -82,7 +82,7 @@ module _ (m n : Machine) (s t : State) (h steps : ℕ) (sound : IsSound m.progra
     own = own;
     others = others;
     shared = subst (λ (after : Shared). SharedAfter m.program.image h moved.done
-        (keeps_reservation m.program.live moved.moved) (decoded m s).shared after)
+        (keeps_reservation m.program moved.moved) (decoded m s).shared after)
         (sym (get_or_from_slice_get n.shared_states t.shared moved.shared.after no_shared moved.shared.has))
         moved.shared.is;
   }

@@ -2,12 +2,13 @@
 use Rattle.std.proofs.Common.{◌≡◌, ◌≢◌, ℕ, ◌<◌, true, false, replicate, refl, sym, ap, subst, ◌∙◌, arith, inl, inr}
 use Rattle.std.specs.Prelude.{◌==◌, ◌&&◌, not, Bool, Option, Some, None, is_some, if◌then◌else◌, nat_lt, slice_index}
 use Rattle.std.proofs.lemmas.Bool.{true≢false, cases_eq, Decides.nat_tests}
+use Rattle.std.specs.Cmp.{first_so}
 use Rattle.smt_model.specs.{declared.config.Status.TheVariants.Going}
 use Rattle.smt_model.specs.{Setup.Setup, Kinds.destination, Bytes.byte_after, Reservations.reservation_after}
 use Rattle.smt_model.specs.Plain.{Plain, after, output_after, is_going_status}
 use Rattle.elf_image.specs.Image.{ProgramImage}
 use Rattle.outcome_laws.specs.{Paths.stepped, Paths.HasItsCode, Live.reservation_matters}
-use Rattle.live_registers.specs.Table.{kept_of}
+use Rattle.condensed_machine.specs.Machine.{keeps_at}
 use Rattle.outcome_laws.proofs.Holding.{has_next}
 use Rattle.sc_machine.specs.{Harts.HartAgrees, declared.hart.Hart.Hart}
 use Rattle.changed_memory.specs.Shared.{Shared, byte_at, reserved_at}
@@ -103,7 +104,7 @@ pub record IsNext (p : Program) (d e : Decoded) (h : ℕ) (done : Executed) (ste
   pub rests : ComesToRest p free behind steps y
   pub own : hart_at e.harts h ≡ y
   pub others : (g : ℕ) → g ≢ h → hart_at e.harts g ≡ hart_at d.harts g
-  pub shared : SharedAfter p.image h done (keeps_reservation p.live y) d.shared e.shared
+  pub shared : SharedAfter p.image h done (keeps_reservation p y) d.shared e.shared
 
 module _ (p : Program) (d e : Decoded) (h steps : ℕ) (done : Executed) (y : Hart) (sound : IsSound p)
     (inside : h < p.harts) (zero : slice_index (hart_at d.harts h).registers 0 ≡ 0) (code : HasCode p.image d.shared)
@@ -128,10 +129,11 @@ module _ (p : Program) (d e : Decoded) (h steps : ℕ) (done : Executed) (y : Ha
   goes =
       next.rests.settles.leads setup (tables_of p) h behind (has_targets p) image there holds
       (next.is_behind setup (full p d) image there (hart_is p d h inside zero) (shared_is p d))
-      (next.is_free setup (full p d) image there (hart_is p d h inside zero) (shared_is p d))
+      (λ told. next.is_free setup (full p d) image there (hart_is p d h inside zero) (shared_is p d)
+      (first_so next.free (not p.without.conditional) told))
 
   abbrev keeps : Bool
-  keeps = keeps_reservation p.live y
+  keeps = keeps_reservation p y
 
   shared : SharedStays p.image h keeps goes.there e.shared
   shared =
@@ -140,14 +142,14 @@ module _ (p : Program) (d e : Decoded) (h steps : ℕ) (done : Executed) (y : Ha
       (shared_behind setup p (full p d) h done keeps d.shared e.shared (shared_is p d) next.shared))
 
   -- Where hart h's reservation matters it is kept.
-  matters_there : (g : ℕ) → reservation_matters (kept_of p.live) goes.there g ≡ true → is_dropped h keeps g ≡ false
+  matters_there : (g : ℕ) → reservation_matters (keeps_at p) goes.there g ≡ true → is_dropped h keeps g ≡ false
   matters_there g matter = elim (cases_eq g h) [
     | inl own ↦
         let rested = next.rests.rested in
         let kept : keeps ≡ true =
-        ap (λ status. is_going_status status && kept_of p.live y.pc) (rested.status ∙ goes.agrees.status)
-        ∙ ap (λ pc. is_going_status (goes.there.statuses h) && kept_of p.live pc) (rested.pc ∙ goes.agrees.pc)
-        ∙ subst (λ k. reservation_matters (kept_of p.live) goes.there k ≡ true) own matter in
+        ap (λ status. is_going_status status && keeps_at p y.pc) (rested.status ∙ goes.agrees.status)
+        ∙ ap (λ pc. is_going_status (goes.there.statuses h) && keeps_at p pc) (rested.pc ∙ goes.agrees.pc)
+        ∙ subst (λ k. reservation_matters (keeps_at p) goes.there k ≡ true) own matter in
         ap (λ b. g == h && not b) kept ∙ second_no (g == h) false refl
     | inr other ↦
         let apart : (g == h) ≡ false = grind (arith, nat_tests) in

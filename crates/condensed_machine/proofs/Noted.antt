@@ -28,7 +28,7 @@ use Rattle.condensed_machine.proofs.Numbers.{hart_of_number}
 module _ (p : Program) (old new : List Hart) (before now : List Shared) (keeps : Keeps old new)
     (keeps_shared : Keeps before now) where
   pub after_stays : (h : ℕ) (from : MoveFrom) (to : MoveTo) (move : IsMove p old before from to)
-      → IsSharedAfter p.image from.hart move.done (keeps_reservation p.live move.moved) move.common now to.shared
+      → IsSharedAfter p.image from.hart move.done (keeps_reservation p move.moved) move.common now to.shared
   after_stays h from to move = record {
     after = move.after.after;
     has = keeps_shared to.shared move.after.after move.after.has;
@@ -195,7 +195,7 @@ module _ (m k n : Machine) (s t : State) (h : ℕ) (from : MoveFrom) (to : MoveT
     far = numbered.known;
     shared =
         subst (λ (number : ℕ). IsSharedAfter k.program.image from.hart move.done
-        (keeps_reservation k.program.live move.moved) move.common n.shared_states number)
+        (keeps_reservation k.program move.moved) move.common n.shared_states number)
         (sym numbered.shared_is)
         (after_stays k.program k.hart_states n.hart_states k.shared_states n.shared_states second.hart_states
         second.shared_states from.hart from to move);

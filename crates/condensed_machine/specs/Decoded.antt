@@ -5,7 +5,7 @@ use Rattle.numbers.specs.Sizes.{most_harts}
 use Rattle.smt_model.specs.{Plain.Plain, Setup.first_number, declared.config.Status.Status}
 use Rattle.smt_model.specs.{declared.config.Status.TheVariants.Going}
 use Rattle.outcome_laws.specs.Live.{reservation_matters}
-use Rattle.live_registers.specs.Table.{kept_of}
+use Rattle.condensed_machine.specs.Machine.{keeps_at}
 use Rattle.sc_machine.specs.declared.hart.Hart.{Hart}
 use Rattle.changed_memory.specs.Shared.{Shared, byte_at, reserved_at}
 use Rattle.condensed_machine.specs.Machine.{Machine, Program}
@@ -74,7 +74,7 @@ state_of m s = full m.program (decoded m s)
 
 -- A reservation that isn't kept isn't there.
 abbrev pub AreDropped : Program → Decoded → Type 0
-AreDropped p d = (h : ℕ) → reservation_matters (kept_of p.live) (full p d) h ≡ false → reserved_at d.shared h ≡ None
+AreDropped p d = (h : ℕ) → reservation_matters (keeps_at p) (full p d) h ≡ false → reserved_at d.shared h ≡ None
 
 -- Each number of a state is that of something that was found; that of a hart that isn't there is 0. No
 -- reservation is there that isn't kept.

@@ -26,10 +26,14 @@ pub record IsExecuted (setup : Setup) (s : Plain) (h : ℕ) (e : Executed) : Typ
   pub addr : e.addr ≡ (computes setup s h).addr
   pub effect : e.effect ≡ effect_at setup s h
 
+-- A hart that is told to be free is taken as free, unless that its SC is followed is left out.
+abbrev pub taken_free : Program → Bool → Bool
+taken_free p free = free && not p.without.conditional
+
 -- So many local steps lead from x, which may be told to be free, to a hart that is y but for registers that aren't kept.
 pub record ComesToRest (p : Program) (free : Bool) (x : Hart) (steps : ℕ) (y : Hart) : Type 0 where
   pub moved : Hart
-  pub settles : SettlesAs p.image p.targets free x steps moved
+  pub settles : SettlesAs p.image p.targets (taken_free p free) x steps moved
   pub rested : IsRested p.live p.watched moved y
 
 -- Hart h is y behind its step from s.

@@ -1,5 +1,5 @@
 -- What a machine has that numbers the parts of its states.
-use Rattle.std.specs.Prelude.{◌≡◌, ℕ, ◌<◌, ◌≤◌, Bool, true, false, List, length, Some, slice_index, slice_get}
+use Rattle.std.specs.Prelude.{◌≡◌, ℕ, ◌<◌, ◌≤◌, ◌||◌, Bool, true, false, List, length, Some, slice_index, slice_get}
 use Rattle.numbers.specs.Sizes.{most_harts}
 use Rattle.elf_image.specs.Image.{ProgramImage, code_writable}
 use Rattle.smt_model.specs.{Setup.Setup}
@@ -10,23 +10,29 @@ use Rattle.live_registers.specs.declared.targets.{Jump.Jump, Targets.Targets}
 use Rattle.live_registers.specs.declared.table.LiveTable.{LiveTable}
 use Rattle.sc_machine.specs.declared.hart.Hart.{Hart}
 use Rattle.changed_memory.specs.Shared.{Shared, byte_at}
+use Rattle.reductions.specs.declared.without.Without.{Without}
 
 -- What is searched: an image, how many harts run it, which registers are wanted of each at its end, by their
 -- numbers; where jumps by registers go on, and, if they do, which registers may be read yet at each pc, and where a
--- reservation may be used yet.
+-- reservation may be used yet; and which reductions are left out.
 pub record Program : Type 0 where
   pub image : ProgramImage
   pub harts : ℕ
   pub watched : List Bool
   pub targets : Targets
   pub live : LiveTable
+  pub without : Without
+
+-- A reservation is kept at a pc: it may be used yet; or the reduction by which others are dropped is left out.
+abbrev pub keeps_at : Program → ℕ → Bool
+keeps_at p pc = p.without.conditional || kept_of p.live pc
 
 -- What is known ahead of each step: where a jump by a register goes on, which registers are live, and where a
 -- reservation is kept. All else is as in any program.
 abbrev pub tables_of : Program → Tables
 tables_of p = record {
   live = live_of p.live;
-  kept = kept_of p.live;
+  kept = keeps_at p;
   targets = allows p.targets;
   ahead = λ h pc what writes. true;
   rewritten = λ word. true;
@@ -86,13 +92,14 @@ IsLacking targets jump = (targets.anywhere ≡ false) × (allows targets jump.fr
 abbrev pub MayLack : Machine → Jump → Type 0
 MayLack m jump = IsLacking m.program.targets jump
 
--- The machine of so many harts that run an image, and of which these registers are watched. It goes by the table of
--- targets that it was given, unless the code may be written.
-pub record IsNew (image : ProgramImage) (harts : ℕ) (watched : List Bool) (targets : Targets) (m : Machine)
-    : Type 0 where
+-- The machine of so many harts that run an image, and of which these registers are watched, without these reductions. It
+-- goes by the table of targets that it was given, unless the code may be written.
+pub record IsNew (image : ProgramImage) (harts : ℕ) (watched : List Bool) (targets : Targets) (without : Without)
+    (m : Machine) : Type 0 where
   pub image_is : m.program.image ≡ image
   pub count : m.program.harts ≡ harts
   pub watched_are : m.program.watched ≡ watched
+  pub without_is : m.program.without ≡ without
   pub anywhere : targets.anywhere ≡ true → m.program.targets.anywhere ≡ true
   pub targets_are : code_writable image ≡ false → m.program.targets ≡ targets
   pub sound : IsSound m.program

@@ -33,7 +33,7 @@ pub record IsMove (p : Program) (harts : List Hart) (shared : List Shared) (from
   pub is_free : InEachState p from.hart here common (λ setup s. IsFree free from.hart (stepped setup from.hart s))
   pub rests : ComesToRest p free behind to.steps moved
   pub has : HasNumber harts moved to.number
-  pub after : IsSharedAfter p.image from.hart done (keeps_reservation p.live moved) common shared to.shared
+  pub after : IsSharedAfter p.image from.hart done (keeps_reservation p moved) common shared to.shared
 
 -- So it is by a machine's tables.
 abbrev pub IsMoveOf : Machine → MoveFrom → MoveTo → Type 0

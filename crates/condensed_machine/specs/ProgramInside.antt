@@ -14,6 +14,7 @@ program_of a = record {
   watched = a.watched;
   targets = a.targets;
   live = a.live;
+  without = a.without;
 }
 
 -- The image is well-formed; code and memory are as it has them, and it is known whether the code may be written.

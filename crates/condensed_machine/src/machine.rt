@@ -23,6 +23,7 @@ use indexmap::{IndexMap, IndexSet};
 use live_registers::Targets;
 use numbers::Reg;
 use numbers::sizes::MOST_HARTS;
+use reductions::Without;
 use sc_machine::{Hart, PlainRefused};
 use shared_memory::AccessKind;
 use smt_model::Status;
@@ -65,21 +66,23 @@ impl CondensedMachine {
     /// The machine of an image with `harts` harts, 1 to `MOST_HARTS`. The registers that are watched are
     /// those whose numbers count at an end of a hart: all other registers count while they may be read yet,
     /// jumps by registers going on where `targets` says. Where the code may be written they may go anywhere.
+    /// Without the reduction of SC no hart follows an SC as a local step, and reservations of harts that go are kept.
     /// Refused: another number of harts, or want of memory.
     pub fn new(
         image: &Image,
         harts: u8,
         watched: [bool; REGISTERS],
         targets: Targets,
+        without: Without,
         alloc: Global,
     ) -> Result<CondensedMachine, PlainRefused>
-        ensures ok { IfOk result (IsNew image.now harts watched targets) }
+        ensures ok { IfOk result (IsNew image.now harts watched targets without) }
         ensures harts { (result ≡ Err Harts) ↔ (are_harts harts ≡ false) }
     {
         if harts == 0 || harts > MOST_HARTS {
             return Err(PlainRefused::Harts);
         }
-        match Program::new(image, harts, watched, targets, alloc) {
+        match Program::new(image, harts, watched, targets, without, alloc) {
             Ok(program) => Self::of(program, alloc),
             Err(_) => Err(PlainRefused::Memory),
         }

@@ -109,11 +109,15 @@ impl CondensedMachine {
         })
     }
 
-    /// Whether a hart but the one that stepped had a reservation in the shared parts before and has none behind.
+    /// Whether a hart but the one that stepped had a reservation in the shared parts before and has none behind, where
+    /// harts follow local steps then.
     fn takes(&self, hart: u8, before: u32, behind: u32) -> bool
         requires before { before < length self.now.shared_states }
         requires behind { behind < length self.now.shared_states }
     {
+        if !self.program.follows_losers() {
+            return false;
+        }
         let before = self.numbered_shared(before);
         let behind = self.numbered_shared(behind);
         (0..self.program.harts()).any(|other| {

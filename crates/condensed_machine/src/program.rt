@@ -22,6 +22,7 @@ use changed_memory::SharedState;
 use decoded_code::Code;
 use elf_image::Image;
 use live_registers::{Jump, LiveTable, Targets};
+use reductions::Without;
 use rv_decode::decode_op;
 use rv_instr::Op;
 use sc_machine::{Hart, compute};
@@ -43,6 +44,9 @@ pub(crate) struct Program {
     live: LiveTable,
     watched: [bool; REGISTERS],
     harts: u8,
+    /// Which reductions are left out: without the one of SC no hart is taken as free, and each reservation of a hart that
+    /// goes is kept.
+    without: Without,
 }
 
 impl Model for Program {
@@ -64,6 +68,7 @@ impl Program {
         harts: u8,
         watched: [bool; REGISTERS],
         targets: Targets,
+        without: Without,
         alloc: Global,
     ) -> Result<Program, AllocError>
         requires some { 0 < harts }
@@ -71,6 +76,7 @@ impl Program {
         ensures image { IfOk result (λ program. program.image ≡ image.now) }
         ensures harts { IfOk result (λ program. program.harts ≡ harts) }
         ensures watched { IfOk result (λ program. program.watched ≡ watched) }
+        ensures without { IfOk result (λ program. program.without ≡ without) }
         ensures anywhere { IfOk result (λ program. targets.anywhere ≡ true → program.targets.anywhere ≡ true) }
         ensures targets { IfOk result (λ program. code_writable image.now ≡ false → program.targets ≡ targets) }
         ensures sound { IfOk result IsSound }
@@ -87,6 +93,7 @@ impl Program {
             live,
             watched,
             harts,
+            without,
         })
     }
 
@@ -159,7 +166,7 @@ impl Program {
     }
 
     /// Follows a hart's local steps, and puts 0 into the registers that nobody reads again. A hart that is free is known
-    /// to have no reservation. Answers how many steps there were.
+    /// to have no reservation; its SC is followed unless that is left out. Answers how many steps there were.
     pub(crate) fn come_to_rest(&self, is_free: bool, state: &mut Hart) -> u16
         ensures { ComesToRest self.now is_free state.old result state.new }
     {
@@ -168,18 +175,25 @@ impl Program {
             &self.code,
             &self.targets,
             self.writable,
-            is_free,
+            is_free && !self.without.conditional,
             state,
         );
         rest(&self.live, &self.watched, state);
         steps
     }
 
-    /// Whether a hart's reservation is kept: the hart goes, and may use it yet.
+    /// Whether a hart's reservation is kept: the hart goes, and may use it yet, or each is kept.
     pub(crate) fn keeps_reservation(&self, state: &Hart) -> bool
-        ensures { result ≡ keeps_reservation self.now.live state.now }
+        ensures { result ≡ keeps_reservation self.now state.now }
     {
-        state.is_going() && self.live.is_kept(state.pc)
+        state.is_going() && (self.without.conditional || self.live.is_kept(state.pc))
+    }
+
+    /// Whether harts that lose their reservations by a step of another follow their local steps behind it.
+    pub(crate) fn follows_losers(&self) -> bool
+        ensures { result ≡ not self.now.without.conditional }
+    {
+        !self.without.conditional
     }
 }
 

@@ -1,7 +1,6 @@
 //! The command `chart`: the pipeline of a trace, drawn.
 
-ghost use Rattle.std.specs.Prelude.{◌≡◌, ◌≤◌, [], None, IfOk, IfErr, IfSome, IfNone, OnOk, if◌then◌else◌, is_some};
-ghost use Rattle.std.specs.Prelude.{length, reverse, true, false};
+ghost use Rattle.std.specs.Prelude.{◌≡◌, ◌≤◌, [], IfOk, IfErr, OnOk, if◌then◌else◌, is_some, length, reverse, true, false};
 ghost use Rattle.numbers.specs.Sizes.{most_events};
 ghost use Rattle.sim_inputs.specs.Files.{written_chart};
 ghost use Rattle.chart_rows.specs.Rows.{AreRows};
@@ -9,19 +8,15 @@ ghost use Rattle.chart_rows.specs.Order.{AreByFetch};
 ghost use Rattle.std.specs.Io.KnownBytes.{Appends};
 ghost use Rattle.command_parts.specs.declared.refused.Refused.TheVariants.{Output};
 ghost use Rattle.core_commands.specs.Check.{IsHistoryRefusal, AreHistory, setup_by};
-ghost use Rattle.core_commands.specs.Chart.{IsChartRefusal, ChartComesTo, IsDrawingRefusal};
-ghost use Rattle.core_commands.specs.Chart.{hart_fits, BetweenEnds, Fits, IsHartRefusal, IsPictureRefusal};
-ghost use Rattle.core_commands.specs.Chart.{IsTextOf, IsTooLarge};
+ghost use Rattle.core_commands.specs.Chart.{IsChartRefusal, IsHartRefusal, ChartComesTo, hart_fits};
 ghost use Rattle.symbols.specs.Tables.{table_of};
-ghost use Rattle.address_labels.specs.Labels.{marks_of, marks_where};
 
-use crate::chart_ends::{Drawn, ends_of};
+use crate::chart_ends::Drawn;
+use crate::chart_told::Traced;
 use crate::check::{config_by, follow_all, read_events};
-use address_labels::Labels;
-use chart_rows::{Row, View, rows_of};
-use chart_columns::ColumnTable;
-use charts::{TextChart, last_pictured, write_kanata, write_svg, write_text};
-use command_parts::{Context, Refused, put_text};
+use crate::drawing::{Made, made_of};
+use chart_rows::{Row, rows_of};
+use command_parts::{Context, Refused, put_text, put_two_texts};
 use elf_image::Image;
 use event_text::Trace;
 use sim_inputs::{ChartCommand, Settings};
@@ -30,8 +25,8 @@ use std::io::Write;
 use stress_runs::EndFiles;
 use symbols::Symbols;
 
-/// Checks a trace as `perform_check` does, and draws its history: as text on `out`, or as a picture
-/// or a log into `files`. Answers the exit status, 0.
+/// Checks a trace as `perform_check` does, and draws its history: as text on `out`, or as a picture or a log into
+/// `files`, or both into two of them. Answers the exit status, 0.
 ///
 /// Refused are, in this order, what `perform_check` refuses, a hart that the core hasn't, a name in the program of
 /// which nothing is drawn, and a picture of too many instructions; then nothing is written. So it is where there isn't
@@ -68,11 +63,16 @@ pub fn perform_chart<R, G, P, S: EndFiles, W: Write>(
         names,
     };
     // Handed on as it is: a `?` would leave the prover to find what the refusal becomes.
-    let text = match text_of(&drawn, chart, alloc) {
-        Ok(text) => text,
+    let traced = Traced {
+        image,
+        settings,
+        trace: &trace,
+    };
+    let made = match made_of(&traced, &drawn, chart, alloc) {
+        Ok(made) => made,
         Err(refused) => return Err(refused),
     };
-    put_chart(text.as_slice(), chart, &mut context.files, &mut context.out)
+    put_chart(&made, chart, &mut context.files, &mut context.out)
 }
 
 /// The rows of the history of a trace, in the core that it is of.
@@ -97,18 +97,6 @@ fn history_rows(
     }
 }
 
-/// The text of a chart, or of the file of one.
-fn text_of(drawn: &Drawn<'_>, chart: &ChartCommand<'_>, alloc: Global) -> Result<Vec<u8>, Refused>
-    requires few { length drawn.now.events.now ≤ most_events }
-    requires by_fetch { AreByFetch drawn.now.rows.now }
-    ensures text { IfOk result (λ text. BetweenEnds chart.now drawn.now (IsTextOf chart.now drawn.now text.items)) }
-    ensures refused { IfErr result (IsDrawingRefusal chart.now drawn.now) }
-{
-    let (from, to) = ends_of(chart, drawn)?;
-    let view = View::new(from, to, drawn.hart, drawn.events.len());
-    draw(drawn, chart, &view, alloc)
-}
-
 /// The hart that is to be drawn, of a core of so many; all of them, where none is named.
 fn hart_in(hart: Option<u32>, harts: u8) -> Result<Option<u8>, Refused>
     ensures there { OnOk result (hart_fits harts hart ≡ true) }
@@ -122,112 +110,45 @@ fn hart_in(hart: Option<u32>, harts: u8) -> Result<Option<u8>, Refused>
     }
 }
 
-/// The text of what is to be drawn, of which this view is shown.
-fn draw(
-    drawn: &Drawn<'_>,
-    chart: &ChartCommand<'_>,
-    view: &View,
-    alloc: Global,
-) -> Result<Vec<u8>, Refused>
-    requires by_fetch { AreByFetch drawn.now.rows.now }
-    ensures text { IfOk result (λ text. IsTextOf chart.now drawn.now text.items view.now) }
-    ensures refused { IfErr result (IsPictureRefusal chart.now view.now drawn.now.rows.now) }
-{
-    if let Some(last) = too_large(drawn, chart, view) {
-        return Err(Refused::Picture(last));
-    }
-    if chart.written().is_some() {
-        return drawing(drawn, chart, view, alloc);
-    }
-    let mut text = Vec::new(alloc);
-    let columns = if chart.names { ColumnTable::rounds(drawn.rows, drawn.events, alloc).map_err(|_| Refused::Memory)? } else { ColumnTable::events() };
-    let placed = columns.place_all(drawn.rows, alloc).map_err(|_| Refused::Memory)?;
-    let made = TextChart {
-        rows: placed.as_slice(),
-        events: drawn.events,
-        columns: &columns,
-        view: columns.view(view),
-        width: chart.width,
-        harts: 1,
-        labels: labels_of(chart, drawn),
-        counters: &[],
-        registers: &[],
-    };
-    match write_text(&made, &mut text) {
-        Ok(()) => Ok(text),
-        Err(_) => Err(Refused::Memory),
-    }
-}
-
-/// The last event to which a picture may be drawn, where one is wanted and would be too large.
-fn too_large(drawn: &Drawn<'_>, chart: &ChartCommand<'_>, view: &View) -> Option<u32>
-    ensures some { IfSome result (IsTooLarge chart.now view.now drawn.now.rows.now) }
-    ensures none { IfNone result (Fits chart.now view.now drawn.now.rows.now) }
-{
-    if chart.svg.is_none() {
-        return None;
-    }
-    last_pictured(drawn.rows, view)
-}
-
-/// What goes into a file: a picture, or a log.
-fn drawing(
-    drawn: &Drawn<'_>,
-    chart: &ChartCommand<'_>,
-    view: &View,
-    alloc: Global,
-) -> Result<Vec<u8>, Refused>
-    requires written { is_some (written_chart chart.now) ≡ true }
-    requires fits { Fits chart.now view.now drawn.now.rows.now }
-    ensures text { IfOk result (λ text. IsTextOf chart.now drawn.now text.items view.now) }
-    ensures refused { IfErr result (IsPictureRefusal chart.now view.now drawn.now.rows.now) }
-{
-    let mut text = Vec::new(alloc);
-    let (rows, events) = (drawn.rows, drawn.events);
-    let labels = &labels_of(chart, drawn);
-    let made = if chart.svg.is_some() {
-        write_svg(rows, events, view, chart.width, labels, &mut text)
-    } else {
-        write_kanata(rows, events, view, labels, &mut text, alloc)
-    };
-    match made {
-        Ok(()) => Ok(text),
-        Err(_) => Err(Refused::Memory),
-    }
-}
-
-/// What is wanted beside the pcs of a chart.
-fn labels_of<'a>(chart: &ChartCommand<'_>, drawn: &Drawn<'a>) -> Labels<'a>
-    ensures { marks_of result ≡ marks_where chart.now.names (table_of drawn.now.names.now) None }
-{
-    let names = if chart.names { Some(drawn.names) } else { None };
-    Labels { names, lines: None }
-}
-
-/// Writes the text of a chart, on `out` or into its file. Answers the exit status, 0.
+/// Writes what a chart comes to, on `out` or into its files. Answers the exit status, 0.
 fn put_chart<S: EndFiles, W: Write>(
-    text: &[u8],
+    made: &Made,
     chart: &ChartCommand<'_>,
-    file: &mut S,
+    files: &mut S,
     out: &mut W,
 ) -> Result<u8, Refused>
-    requires works { S.has_failed file.old ≡ false }
-    requires finished { S.is_finished file.old ≡ true }
+    requires works { S.has_failed files.old ≡ false }
+    requires finished { S.is_finished files.old ≡ true }
     ensures refused { IfErr result (λ reason. reason ≡ Output) }
     ensures zero { IfOk result (λ status. status ≡ 0) }
     ensures printed { OnOk result (Appends (W.contents out.old) (W.contents out.new)
-        (if is_some (written_chart chart.now) then [] else text.now)) }
-    ensures unwanted { is_some (written_chart chart.now) ≡ false → file.new ≡ file.old }
-    ensures unbroken { OnOk result (S.has_failed file.new ≡ false) }
-    ensures finished { OnOk result (S.is_finished file.new ≡ true) }
-    ensures unreported { S.has_failed file.new ≡ true
+        (if is_some (written_chart chart.now) then [] else made.now.text.items)) }
+    ensures unwanted { is_some (written_chart chart.now) ≡ false → files.new ≡ files.old }
+    ensures unbroken { OnOk result (S.has_failed files.new ≡ false) }
+    ensures finished { OnOk result (S.is_finished files.new ≡ true) }
+    ensures unreported { S.has_failed files.new ≡ true
         → W.contents out.new ≡ W.contents out.old }
 {
     if chart.written().is_some() {
-        return put_text(text, file);
+        return put_files(made, files);
     }
-    match out.write_all(text) {
+    match out.write_all(made.text.as_slice()) {
         Ok(()) => Ok(0),
         Err(_) => Err(Refused::Output),
+    }
+}
+
+/// Writes what a chart comes to into its file, or into both. Answers the exit status, 0.
+fn put_files<S: EndFiles>(made: &Made, files: &mut S) -> Result<u8, Refused>
+    requires works { S.has_failed files.old ≡ false }
+    requires finished { S.is_finished files.old ≡ true }
+    ensures refused { IfErr result (λ reason. reason ≡ Output) }
+    ensures zero { IfOk result (λ status. status ≡ 0) }
+    ensures unbroken { OnOk result (S.has_failed files.new ≡ false) }
+    ensures finished { OnOk result (S.is_finished files.new ≡ true) }
+{
+    match &made.beside {
+        Some(beside) => put_two_texts(made.text.as_slice(), beside.as_slice(), files),
+        None => put_text(made.text.as_slice(), files),
     }
 }

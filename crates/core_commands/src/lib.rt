@@ -3,15 +3,19 @@
 //! Read in this order: `wanted` (what is wanted of a core), `core_story` (the story of one), `account` (what is
 //! reported of one), then a module a command: `step`, `prompt` (the same of a script that is typed), `run`, `watching`
 //! (what is watched of many runs), `making` (one of many runs), `stress` (many runs), `test_runs` (many runs of
-//! a litmus test), `check`, `script`, `chart` and `migrate`. What each command
-//! comes to, and when each of its refusals comes, stands in `specs` under the command's name.
+//! a litmus test), `check`, `script`, `chart` (with `chart_ends`, from where to where one is drawn, `chart_columned`
+//! and `chart_told`, what stands in which column, and what beside the rows, and `drawing`, what is drawn) and `migrate`. What each command comes to, and when each of its refusals comes, stands in `specs` under the
+//! command's name.
 #![tactic(auto)]
 
 mod account;
 mod chart;
+mod chart_columned;
 mod chart_ends;
+mod chart_told;
 mod check;
 mod core_story;
+mod drawing;
 mod judgement;
 mod making;
 mod migrate;

@@ -23,6 +23,7 @@ use litmus_tests::LitmusTest;
 use outcome_text::write_incomplete;
 use outcomes::{Extent, Outcomes};
 use plain_commands::{find_shown, put_image, settings_for, test_of};
+use reductions::Without;
 use sim_inputs::{LitmusCommand, Settings};
 use smt_core::Core;
 use std::io::Write;
@@ -129,6 +130,7 @@ fn run_test<
         harts,
         &watch,
         command.states,
+        Without::none(),
         context.gate,
         &(),
         alloc,

@@ -1,12 +1,14 @@
 //! All outcomes of small programs that jump by registers, worked by hand.
 
 use crate::rows::holds;
+use crate::searched::{found_of, watching_nothing};
 use arrayvec::ArrayVec;
-use elf_image::Image;
 use outcomes::{Extent, Outcomes, find_outcomes};
+use reductions::Without;
 use smt_model::Status;
 use std::alloc::Global;
-use test_support::{file_of, image_of, writable_file_of};
+use std::process::Abort;
+use test_support::{image_of, writable_file_of};
 use watched_outcomes::{Watch, WatchedBytes, WatchedRegister, Width};
 
 /// The word that the harts share in these programs.
@@ -16,7 +18,7 @@ const SHARED: u32 = 0x8000_1000;
 /// `addi x8,x6,0`, `addi x7,x12,0`, `jal x1,f`, `add x10,x8,x12`, `addi x17,x0,93`, `ecall`, and `f: addi x13,x0,1`,
 /// `amoadd.w x12,x13,(x5)`, `jalr x0,0(x1)`. Behind the first call x6 is read, behind the second one x8, and x7, what
 /// the first one found there, never.
-static CALLS: [u32; 12] = [
+pub static CALLS: [u32; 12] = [
     0x8000_12b7,
     0x0055_0313,
     0x01c0_00ef,
@@ -33,7 +35,7 @@ static CALLS: [u32; 12] = [
 
 /// How two harts end that call so: with 5, the hart's number and what its second call has found. One of them finds 3,
 /// and the other one 1 or 2.
-const CALLED: [(u32, u32); 4] = [(6, 9), (7, 9), (8, 7), (8, 8)];
+pub const CALLED: [(u32, u32); 4] = [(6, 9), (7, 9), (8, 7), (8, 8)];
 
 /// In a state each hart has both calls before it, or one, or is over, which are four states without a hart that is
 /// over; three in which one hart is, which found 1 or, where the other one has called too, 1 or 2, and three with the
@@ -169,11 +171,6 @@ static STORES_CONDITIONALLY: [u32; 5] = [
     0x0000_8067,
 ];
 
-fn image_with(words: &[u32], alloc: Global) -> Option<Image> {
-    let file = file_of(words, 0, alloc).ok()?;
-    image_of(file.as_slice(), 65536, alloc)
-}
-
 /// A register of each of two harts and the shared word are watched.
 fn watching(register: u8) -> Watch {
     let mut registers = ArrayVec::new();
@@ -187,18 +184,9 @@ fn watching(register: u8) -> Watch {
     Watch { registers, words }
 }
 
-/// Nothing is watched.
-fn watching_nothing() -> Watch {
-    Watch {
-        registers: ArrayVec::new(),
-        words: ArrayVec::new(),
-    }
-}
-
 /// The outcomes of a program of two harts, of which this register is watched.
 fn of_two_harts(words: &[u32], register: u8, alloc: Global) -> Option<Outcomes> {
-    let image = image_with(words, alloc)?;
-    find_outcomes(&image, 2, &watching(register), 10_000, &(), &(), alloc).ok()
+    found_of(words, 2, &watching(register), 10_000, alloc)
 }
 
 /// Whether all states were looked at, and from each of them some order leads on to an end.
@@ -236,8 +224,7 @@ fn is_called(found: &Outcomes, index: usize, row: (u32, u32)) -> bool {
 
 /// The outcomes of the two calls, for this budget.
 fn called(budget: u32, alloc: Global) -> Option<Outcomes> {
-    let image = image_with(&CALLS, alloc)?;
-    find_outcomes(&image, 2, &watching_nothing(), budget, &(), &(), alloc).ok()
+    found_of(&CALLS, 2, &watching_nothing(), budget, alloc)
 }
 
 /// Whether each outcome is that of some row of `CALLED`.
@@ -252,57 +239,67 @@ fn are_called(found: &Outcomes) -> bool {
     true
 }
 
+/// Asserts what was found of `a_function_that_goes_back_to_two_callers`.
+fn check_a_function_that_goes_back_to_two_callers(
+    rt: &impl Abort,
+    found: &Outcomes,
+    alloc: Global,
+) {
+    holds(rt, "four", found.count() == 4);
+    holds(rt, "first", is_called(found, 0, CALLED[0]));
+    holds(rt, "second", is_called(found, 1, CALLED[1]));
+    holds(rt, "third", is_called(found, 2, CALLED[2]));
+    holds(rt, "fourth", is_called(found, 3, CALLED[3]));
+    holds(rt, "states", found.states() == u64::from(STATES_OF_CALLS));
+    holds(rt, "stuck", always_can_end(found, alloc));
+}
+
 #[test]
 fn a_function_that_goes_back_to_two_callers(rt: HostRuntime) {
     match called(STATES_OF_CALLS, rt.alloc()) {
-        Some(found) => {
-            holds(&rt, "four", found.count() == 4);
-            holds(&rt, "first", is_called(&found, 0, CALLED[0]));
-            holds(&rt, "second", is_called(&found, 1, CALLED[1]));
-            holds(&rt, "third", is_called(&found, 2, CALLED[2]));
-            holds(&rt, "fourth", is_called(&found, 3, CALLED[3]));
-            holds(&rt, "states", found.states() == u64::from(STATES_OF_CALLS));
-            holds(&rt, "stuck", always_can_end(&found, rt.alloc()));
-        }
+        Some(found) => check_a_function_that_goes_back_to_two_callers(&rt, &found, rt.alloc()),
         None => holds(&rt, "found", false),
     }
+}
+
+/// Asserts what was found of `one_state_more_than_the_budget`.
+fn check_one_state_more_than_the_budget(rt: &impl Abort, found: &Outcomes) {
+    holds(rt, "beyond", found.extent() == Extent::Beyond);
+    holds(rt, "some", found.count() > 0);
+    holds(rt, "rows", are_called(found));
 }
 
 #[test]
 fn one_state_more_than_the_budget(rt: HostRuntime) {
     match called(STATES_OF_CALLS - 1, rt.alloc()) {
-        Some(found) => {
-            holds(&rt, "beyond", found.extent() == Extent::Beyond);
-            holds(&rt, "some", found.count() > 0);
-            holds(&rt, "rows", are_called(&found));
-        }
+        Some(found) => check_one_state_more_than_the_budget(&rt, &found),
         None => holds(&rt, "found", false),
     }
+}
+
+/// Asserts what was found of `jumps_by_a_table_of_addresses`.
+fn check_jumps_by_a_table_of_addresses(rt: &impl Abort, found: &Outcomes, alloc: Global) {
+    let statuses = [Status::Stopped(3), Status::Stopped(3)];
+    holds(rt, "one", found.count() == 1);
+    holds(rt, "ends", is_of_two(found, 0, statuses, [7, 9], 0));
+    holds(rt, "states", found.states() == 4);
+    holds(rt, "stuck", always_can_end(found, alloc));
 }
 
 // In a state each hart has yet to load or is over.
 #[test]
 fn jumps_by_a_table_of_addresses(rt: HostRuntime) {
     match of_two_harts(&TABLE, 10, rt.alloc()) {
-        Some(found) => {
-            let statuses = [Status::Stopped(3), Status::Stopped(3)];
-            holds(&rt, "one", found.count() == 1);
-            holds(&rt, "ends", is_of_two(&found, 0, statuses, [7, 9], 0));
-            holds(&rt, "states", found.states() == 4);
-            holds(&rt, "stuck", always_can_end(&found, rt.alloc()));
-        }
+        Some(found) => check_jumps_by_a_table_of_addresses(&rt, &found, rt.alloc()),
         None => holds(&rt, "found", false),
     }
 }
 
 /// Whether a program of one hart has one outcome, in which the hart was stopped for this cause.
 fn stops(words: &[u32], cause: u8, alloc: Global) -> bool {
-    let Some(image) = image_with(words, alloc) else {
-        return false;
-    };
-    match find_outcomes(&image, 1, &watching_nothing(), 10, &(), &(), alloc) {
-        Ok(found) => found.count() == 1 && is_stopped(&found, cause),
-        Err(_) => false,
+    match found_of(words, 1, &watching_nothing(), 10, alloc) {
+        Some(found) => found.count() == 1 && is_stopped(&found, cause),
+        None => false,
     }
 }
 
@@ -321,18 +318,31 @@ fn jumps_to_where_no_code_is(rt: HostRuntime) {
     }
 }
 
+/// Asserts what was found of `a_search_that_begins_anew_for_each_jump`.
+fn check_a_search_that_begins_anew_for_each_jump(rt: &impl Abort, found: &Outcomes, alloc: Global) {
+    let statuses = [Status::Stopped(3), Status::Stopped(3)];
+    holds(rt, "two", found.count() == 2);
+    holds(rt, "beside", is_of_two(found, 0, statuses, [0, 0], 0));
+    holds(rt, "between", is_of_two(found, 1, statuses, [0, 1], 0));
+    holds(rt, "stuck", always_can_end(found, alloc));
+}
+
 #[test]
 fn a_search_that_begins_anew_for_each_jump(rt: HostRuntime) {
     match of_two_harts(&ANEW, 7, rt.alloc()) {
-        Some(found) => {
-            let statuses = [Status::Stopped(3), Status::Stopped(3)];
-            holds(&rt, "two", found.count() == 2);
-            holds(&rt, "beside", is_of_two(&found, 0, statuses, [0, 0], 0));
-            holds(&rt, "between", is_of_two(&found, 1, statuses, [0, 1], 0));
-            holds(&rt, "stuck", always_can_end(&found, rt.alloc()));
-        }
+        Some(found) => check_a_search_that_begins_anew_for_each_jump(&rt, &found, rt.alloc()),
         None => holds(&rt, "found", false),
     }
+}
+
+/// Asserts what was found of `a_hart_writes_a_jump_of_another`.
+fn check_a_hart_writes_a_jump_of_another(rt: &impl Abort, found: &Outcomes, alloc: Global) {
+    let behind = [Status::Stopped(3), Status::Stopped(1)];
+    let before = [Status::Stopped(3), Status::Stopped(3)];
+    holds(rt, "two", found.count() == 2);
+    holds(rt, "behind", is_of_two(found, 0, behind, [0, 1], 0));
+    holds(rt, "before", is_of_two(found, 1, before, [0, 5], 0));
+    holds(rt, "stuck", always_can_end(found, alloc));
 }
 
 // By hand: hart 1 executes the sixth word before hart 0 has written it, or behind that. Then it goes on at 0, where no
@@ -345,29 +355,34 @@ fn a_hart_writes_a_jump_of_another(rt: HostRuntime) {
     let Some(image) = image_of(file.as_slice(), 65536, rt.alloc()) else {
         return holds(&rt, "image", false);
     };
-    match find_outcomes(&image, 2, &watching(10), 100, &(), &(), rt.alloc()) {
-        Ok(found) => {
-            let behind = [Status::Stopped(3), Status::Stopped(1)];
-            let before = [Status::Stopped(3), Status::Stopped(3)];
-            holds(&rt, "two", found.count() == 2);
-            holds(&rt, "behind", is_of_two(&found, 0, behind, [0, 1], 0));
-            holds(&rt, "before", is_of_two(&found, 1, before, [0, 5], 0));
-            holds(&rt, "stuck", always_can_end(&found, rt.alloc()));
-        }
+    match find_outcomes(
+        &image,
+        2,
+        &watching(10),
+        100,
+        Without::none(),
+        &(),
+        &(),
+        rt.alloc(),
+    ) {
+        Ok(found) => check_a_hart_writes_a_jump_of_another(&rt, &found, rt.alloc()),
         Err(_) => holds(&rt, "found", false),
     }
+}
+
+/// Asserts what was found of `a_function_that_stores_conditionally_alone`.
+fn check_a_function_that_stores_conditionally_alone(rt: &impl Abort, found: &Outcomes) {
+    let statuses = [Status::Stopped(3), Status::Stopped(3)];
+    holds(rt, "one", found.count() == 1);
+    holds(rt, "ends", is_of_two(found, 0, statuses, [1, 1], 0));
+    holds(rt, "states", found.states() == 1);
 }
 
 // Nobody has reserved anything, so each SC fails without being seen, and both harts are over in the one state.
 #[test]
 fn a_function_that_stores_conditionally_alone(rt: HostRuntime) {
     match of_two_harts(&STORES_CONDITIONALLY, 10, rt.alloc()) {
-        Some(found) => {
-            let statuses = [Status::Stopped(3), Status::Stopped(3)];
-            holds(&rt, "one", found.count() == 1);
-            holds(&rt, "ends", is_of_two(&found, 0, statuses, [1, 1], 0));
-            holds(&rt, "states", found.states() == 1);
-        }
+        Some(found) => check_a_function_that_stores_conditionally_alone(&rt, &found),
         None => holds(&rt, "found", false),
     }
 }

@@ -7,6 +7,7 @@ ghost use Rattle.condensed_machine.specs.declared.state.State.{State};
 use crate::rows::holds;
 use condensed_machine::{CondensedMachine, State, Way};
 use live_registers::{Jump, Targets};
+use reductions::Without;
 use searches::{Machine, Step, Unmade};
 use smt_model::Status;
 use std::alloc::Global;
@@ -82,6 +83,7 @@ fn counted(alloc: Global) -> Option<Seen> {
         2,
         [false; 32],
         Targets::anywhere(alloc),
+        Without::none(),
         alloc,
     ) else {
         return None;
@@ -157,6 +159,7 @@ fn made_once(alloc: Global) -> Option<(bool, bool)> {
         2,
         [false; 32],
         Targets::anywhere(alloc),
+        Without::none(),
         alloc,
     ) else {
         return None;
@@ -197,6 +200,7 @@ fn comes_back(alloc: Global) -> Option<bool> {
         2,
         [false; 32],
         Targets::anywhere(alloc),
+        Without::none(),
         alloc,
     ) else {
         return None;
@@ -225,7 +229,14 @@ struct Refused {
 fn refused_by(targets: Targets, alloc: Global) -> Option<Refused> {
     let file = file_of(&JUMPING, 0, alloc).ok()?;
     let image = image_of(file.as_slice(), 65536, alloc)?;
-    let Ok(mut machine) = CondensedMachine::new(&image, 2, [false; 32], targets, alloc) else {
+    let Ok(mut machine) = CondensedMachine::new(
+        &image,
+        2,
+        [false; 32],
+        targets,
+        Without::none(),
+        alloc,
+    ) else {
         return None;
     };
     let Ok(begun) = machine.begin() else {

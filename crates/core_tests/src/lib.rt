@@ -45,11 +45,15 @@ mod plain_run_tests;
 #[cfg(test)]
 mod reasons_tests;
 #[cfg(test)]
+mod reductions_tests;
+#[cfg(test)]
 mod refused_traces_tests;
 #[cfg(test)]
 mod rows;
 #[cfg(test)]
 mod sc_machine_tests;
+#[cfg(test)]
+mod searched;
 #[cfg(test)]
 mod smt_core_tests;
 #[cfg(test)]

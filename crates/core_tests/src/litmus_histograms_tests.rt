@@ -11,6 +11,7 @@ use litmus_reading::read_litmus;
 use litmus_tests::LitmusTest;
 use numbers::sizes::HART_ROOM;
 use outcomes::{Outcomes, find_outcomes};
+use reductions::Without;
 use smt_model::Status;
 use std::alloc::{AllocError, Global};
 use stress_runs::Row;
@@ -42,7 +43,17 @@ fn found_of(test: &LitmusTest, alloc: Global) -> Option<Outcomes>
 {
     let image = image_of(test, alloc).ok()?;
     let watch = watch_of(test);
-    find_outcomes(&image, harts_of(test), &watch, 100_000, &(), &(), alloc).ok()
+    find_outcomes(
+        &image,
+        harts_of(test),
+        &watch,
+        100_000,
+        Without::none(),
+        &(),
+        &(),
+        alloc,
+    )
+    .ok()
 }
 
 /// So many runs in which both harts stand so, and hart 1 has read 1.

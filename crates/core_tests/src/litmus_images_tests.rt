@@ -14,8 +14,10 @@ use litmus_tests::{
     Width,
 };
 use outcomes::{Outcomes, find_outcomes};
+use reductions::Without;
 use rv_instr::{BranchOp, Instr, LoadOp, RegisterOp, StoreOp};
 use std::alloc::{AllocError, Global};
+use std::process::Abort;
 
 /// x5 has the address of a hart's own location, x6 that of the other one's.
 fn buffering_starts(own: usize, alloc: Global) -> Result<Vec<RegisterStart>, AllocError>
@@ -226,7 +228,25 @@ fn found_of(test: &LitmusTest, alloc: Global) -> Option<Outcomes>
 {
     let image = image_of(test, alloc).ok()?;
     let watch = watch_of(test);
-    find_outcomes(&image, harts_of(test), &watch, 100_000, &(), &(), alloc).ok()
+    find_outcomes(
+        &image,
+        harts_of(test),
+        &watch,
+        100_000,
+        Without::none(),
+        &(),
+        &(),
+        alloc,
+    )
+    .ok()
+}
+
+/// Asserts what was found of `store_buffering`.
+fn check_store_buffering(rt: &impl Abort, test: &LitmusTest, found: &Outcomes) {
+    holds(rt, "count", found.count() == 3);
+    holds(rt, "first", is_row(test, found, 0));
+    holds(rt, "second", is_row(test, found, 1));
+    holds(rt, "third", is_row(test, found, 2));
 }
 
 #[test]
@@ -235,12 +255,7 @@ fn store_buffering(rt: HostRuntime) {
         return holds(&rt, "made", false);
     };
     match found_of(&test, rt.alloc()) {
-        Some(found) => {
-            holds(&rt, "count", found.count() == 3);
-            holds(&rt, "first", is_row(&test, &found, 0));
-            holds(&rt, "second", is_row(&test, &found, 1));
-            holds(&rt, "third", is_row(&test, &found, 2));
-        }
+        Some(found) => check_store_buffering(&rt, &test, &found),
         None => holds(&rt, "found", false),
     }
 }

@@ -1,11 +1,13 @@
 //! All outcomes of small programs, enumerated by hand.
 
 use crate::rows::holds;
+use crate::searched::found_of;
 use arrayvec::ArrayVec;
-use elf_image::Image;
-use outcomes::{Extent, Outcomes, OutcomesRefused, Until, find_outcomes};
+use outcomes::{Extent, Outcomes, find_outcomes};
+use reductions::Without;
 use smt_model::Status;
 use std::alloc::Global;
+use std::process::Abort;
 use test_support::{file_of, image_of};
 use watched_outcomes::{Watch, WatchedBytes, WatchedRegister, Width};
 
@@ -28,11 +30,6 @@ static ROUND: [u32; 1] = [0x0000_006f];
 /// each, the word that they count on.
 const COUNTED: [(u32, u32, u32); 3] = [(1, 1, 1), (1, 2, 2), (2, 1, 2)];
 
-fn image_with(words: &[u32], alloc: Global) -> Option<Image> {
-    let file = file_of(words, 0, alloc).ok()?;
-    image_of(file.as_slice(), 65536, alloc)
-}
-
 /// A word that is watched.
 fn watching(word: u32) -> Watch {
     let mut words = ArrayVec::new();
@@ -46,10 +43,8 @@ fn watching(word: u32) -> Watch {
     }
 }
 
-fn counted(budget: u32, alloc: Global) -> Option<Result<Outcomes, OutcomesRefused>> {
-    let image = image_with(&COUNTER, alloc)?;
-    let watch = watching(0x8000_1000);
-    Some(find_outcomes(&image, 2, &watch, budget, &(), &(), alloc))
+fn counted(budget: u32, alloc: Global) -> Option<Outcomes> {
+    found_of(&COUNTER, 2, &watching(0x8000_1000), budget, alloc)
 }
 
 /// Whether an outcome is that of a row.
@@ -97,43 +92,38 @@ fn is_written_once(found: &Outcomes, index: usize) -> bool {
     found.extent() == Extent::Whole && !found.is_unwritten(index)
 }
 
+/// Asserts what was found of `two_harts_that_count`.
+fn check_two_harts_that_count(rt: &impl Abort, found: &Outcomes, alloc: Global) {
+    holds(rt, "whole", found.extent() == Extent::Whole);
+    holds(rt, "count", found.count() == 3);
+    holds(rt, "both", is_row(found, 0, COUNTED[0]));
+    holds(rt, "first", is_row(found, 1, COUNTED[1]));
+    holds(rt, "second", is_row(found, 2, COUNTED[2]));
+    holds(rt, "states", found.states() > 0);
+    holds(rt, "stuck", always_can_end(found, alloc));
+    holds(rt, "written", is_written_once(found, 0));
+}
+
 #[test]
 fn two_harts_that_count(rt: HostRuntime) {
     match counted(1000, rt.alloc()) {
-        Some(Ok(found)) => {
-            holds(&rt, "whole", found.extent() == Extent::Whole);
-            holds(&rt, "count", found.count() == 3);
-            holds(&rt, "both", is_row(&found, 0, COUNTED[0]));
-            holds(&rt, "first", is_row(&found, 1, COUNTED[1]));
-            holds(&rt, "second", is_row(&found, 2, COUNTED[2]));
-            holds(&rt, "states", found.states() > 0);
-            holds(&rt, "stuck", always_can_end(&found, rt.alloc()));
-            holds(&rt, "written", is_written_once(&found, 0));
-        }
-        _ => holds(&rt, "found", false),
+        Some(found) => check_two_harts_that_count(&rt, &found, rt.alloc()),
+        None => holds(&rt, "found", false),
     }
+}
+
+/// Asserts what was found of `a_word_that_nobody_writes`.
+fn check_a_word_that_nobody_writes(rt: &impl Abort, found: &Outcomes) {
+    holds(rt, "unwritten", is_unwritten(found, 0));
+    holds(rt, "no other", is_written_once(found, 1));
 }
 
 /// The word behind the one that they count on.
 #[test]
 fn a_word_that_nobody_writes(rt: HostRuntime) {
-    let Some(image) = image_with(&COUNTER, rt.alloc()) else {
-        return holds(&rt, "image", false);
-    };
-    match find_outcomes(
-        &image,
-        2,
-        &watching(0x8000_1004),
-        1000,
-        &(),
-        &(),
-        rt.alloc(),
-    ) {
-        Ok(found) => {
-            holds(&rt, "unwritten", is_unwritten(&found, 0));
-            holds(&rt, "no other", is_written_once(&found, 1));
-        }
-        Err(_) => holds(&rt, "found", false),
+    match found_of(&COUNTER, 2, &watching(0x8000_1004), 1000, rt.alloc()) {
+        Some(found) => check_a_word_that_nobody_writes(&rt, &found),
+        None => holds(&rt, "found", false),
     }
 }
 
@@ -149,35 +139,37 @@ fn witness_of(found: &Outcomes, alloc: Global) -> Option<usize> {
 #[test]
 fn an_order_for_both_ones(rt: HostRuntime) {
     match counted(1000, rt.alloc()) {
-        Some(Ok(found)) => holds(&rt, "steps", witness_of(&found, rt.alloc()) == Some(14)),
-        _ => holds(&rt, "found", false),
+        Some(found) => holds(&rt, "steps", witness_of(&found, rt.alloc()) == Some(14)),
+        None => holds(&rt, "found", false),
     }
+}
+
+/// Asserts what was found of `more_states_than_the_budget`.
+fn check_more_states_than_the_budget(rt: &impl Abort, found: &Outcomes) {
+    holds(rt, "beyond", found.extent() == Extent::Beyond);
+    holds(rt, "some", found.count() > 0);
+    holds(rt, "rows", are_rows(found));
 }
 
 #[test]
 fn more_states_than_the_budget(rt: HostRuntime) {
     match counted(2, rt.alloc()) {
-        Some(Ok(found)) => {
-            holds(&rt, "beyond", found.extent() == Extent::Beyond);
-            holds(&rt, "some", found.count() > 0);
-            holds(&rt, "rows", are_rows(&found));
-        }
-        _ => holds(&rt, "found", false),
+        Some(found) => check_more_states_than_the_budget(&rt, &found),
+        None => holds(&rt, "found", false),
     }
+}
+
+/// Asserts what was found of `a_hart_that_goes_round`.
+fn check_a_hart_that_goes_round(rt: &impl Abort, found: &Outcomes, alloc: Global) {
+    holds(rt, "none", found.count() == 0);
+    holds(rt, "stuck", can_be_stuck(found, alloc));
 }
 
 #[test]
 fn a_hart_that_goes_round(rt: HostRuntime) {
-    let found = match image_with(&ROUND, rt.alloc()) {
-        Some(image) => find_outcomes(&image, 1, &watching(0x8000_1000), 10, &(), &(), rt.alloc()),
-        None => Err(OutcomesRefused::Memory),
-    };
-    match found {
-        Ok(found) => {
-            holds(&rt, "none", found.count() == 0);
-            holds(&rt, "stuck", can_be_stuck(&found, rt.alloc()));
-        }
-        Err(_) => holds(&rt, "found", false),
+    match found_of(&ROUND, 1, &watching(0x8000_1000), 10, rt.alloc()) {
+        Some(found) => check_a_hart_that_goes_round(&rt, &found, rt.alloc()),
+        None => holds(&rt, "found", false),
     }
 }
 
@@ -220,20 +212,19 @@ fn has_swapped(found: &Outcomes, index: usize, row: [u32; 2]) -> bool {
     }
 }
 
+/// Asserts what was found of `three_instructions_of_each_of_two_harts`.
+fn check_three_instructions_of_each_of_two_harts(rt: &impl Abort, found: &Outcomes, alloc: Global) {
+    holds(rt, "two", found.count() == 2);
+    holds(rt, "first", has_swapped(found, 0, SWAPPED[0]));
+    holds(rt, "second", has_swapped(found, 1, SWAPPED[1]));
+    holds(rt, "stuck", always_can_end(found, alloc));
+}
+
 #[test]
 fn three_instructions_of_each_of_two_harts(rt: HostRuntime) {
-    let found = match image_with(&SWAP, rt.alloc()) {
-        Some(image) => find_outcomes(&image, 2, &watching_swap(), 100, &(), &(), rt.alloc()),
-        None => Err(OutcomesRefused::Memory),
-    };
-    match found {
-        Ok(found) => {
-            holds(&rt, "two", found.count() == 2);
-            holds(&rt, "first", has_swapped(&found, 0, SWAPPED[0]));
-            holds(&rt, "second", has_swapped(&found, 1, SWAPPED[1]));
-            holds(&rt, "stuck", always_can_end(&found, rt.alloc()));
-        }
-        Err(_) => holds(&rt, "found", false),
+    match found_of(&SWAP, 2, &watching_swap(), 100, rt.alloc()) {
+        Some(found) => check_three_instructions_of_each_of_two_harts(&rt, &found, rt.alloc()),
+        None => holds(&rt, "found", false),
     }
 }
 
@@ -274,21 +265,20 @@ fn is_of_ten(found: &Outcomes) -> bool {
     }
 }
 
+/// Asserts what was found of `ten_harts_that_store`.
+fn check_ten_harts_that_store(rt: &impl Abort, found: &Outcomes, alloc: Global) {
+    holds(rt, "one", found.count() == 1);
+    holds(rt, "ten", is_of_ten(found));
+    holds(rt, "states", found.states() == 1024);
+    holds(rt, "steps", witness_of(found, alloc) == Some(50));
+}
+
 // In a state each hart has yet to store or is over: that are 2^10.
 #[test]
 fn ten_harts_that_store(rt: HostRuntime) {
-    let found = match image_with(&OWN_WORDS, rt.alloc()) {
-        Some(image) => find_outcomes(&image, 10, &watching_the_last(), 1024, &(), &(), rt.alloc()),
-        None => Err(OutcomesRefused::Memory),
-    };
-    match found {
-        Ok(found) => {
-            holds(&rt, "one", found.count() == 1);
-            holds(&rt, "ten", is_of_ten(&found));
-            holds(&rt, "states", found.states() == 1024);
-            holds(&rt, "steps", witness_of(&found, rt.alloc()) == Some(50));
-        }
-        Err(_) => holds(&rt, "found", false),
+    match found_of(&OWN_WORDS, 10, &watching_the_last(), 1024, rt.alloc()) {
+        Some(found) => check_ten_harts_that_store(&rt, &found, rt.alloc()),
+        None => holds(&rt, "found", false),
     }
 }
 
@@ -327,7 +317,17 @@ fn written(flags: u8, alloc: Global) -> Option<Outcomes> {
         *byte = flags;
     }
     let image = image_of(file.as_slice(), 65536, alloc)?;
-    find_outcomes(&image, 2, &watching_written(), 100, &(), &(), alloc).ok()
+    find_outcomes(
+        &image,
+        2,
+        &watching_written(),
+        100,
+        Without::none(),
+        &(),
+        &(),
+        alloc,
+    )
+    .ok()
 }
 
 /// Whether in an outcome the store was made, both harts were stopped by EBREAK, and x10 of hart 1 is this.
@@ -342,28 +342,34 @@ fn is_written(found: &Outcomes, index: usize, number: u32) -> bool {
     }
 }
 
+/// Asserts what was found of `a_hart_writes_an_instruction_of_another`.
+fn check_a_hart_writes_an_instruction_of_another(rt: &impl Abort, found: &Outcomes, alloc: Global) {
+    holds(rt, "two", found.count() == 2);
+    holds(rt, "before", is_written(found, 0, 5));
+    holds(rt, "behind", is_written(found, 1, 9));
+    holds(rt, "stuck", always_can_end(found, alloc));
+}
+
 // By hand: hart 1 executes the sixth word before hart 0 has written it, or behind that.
 #[test]
 fn a_hart_writes_an_instruction_of_another(rt: HostRuntime) {
     match written(7, rt.alloc()) {
-        Some(found) => {
-            holds(&rt, "two", found.count() == 2);
-            holds(&rt, "before", is_written(&found, 0, 5));
-            holds(&rt, "behind", is_written(&found, 1, 9));
-            holds(&rt, "stuck", always_can_end(&found, rt.alloc()));
-        }
+        Some(found) => check_a_hart_writes_an_instruction_of_another(&rt, &found, rt.alloc()),
         None => holds(&rt, "found", false),
     }
+}
+
+/// Asserts what was found of `code_that_may_not_be_written_has_one_outcome`.
+fn check_code_that_may_not_be_written_has_one_outcome(rt: &impl Abort, found: &Outcomes) {
+    holds(rt, "one", found.count() == 1);
+    holds(rt, "stays", has_stayed(found));
 }
 
 // The store stops hart 0 with cause 7, so the sixth word stays.
 #[test]
 fn code_that_may_not_be_written_has_one_outcome(rt: HostRuntime) {
     match written(5, rt.alloc()) {
-        Some(found) => {
-            holds(&rt, "one", found.count() == 1);
-            holds(&rt, "stays", has_stayed(&found));
-        }
+        Some(found) => check_code_that_may_not_be_written_has_one_outcome(&rt, &found),
         None => holds(&rt, "found", false),
     }
 }

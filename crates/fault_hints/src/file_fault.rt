@@ -13,6 +13,8 @@ pub enum FileFault {
     TooLong,
     /// It would be written over, and the line reads it.
     IsRead,
+    /// The line writes another file to its place.
+    IsWritten,
     /// Its name is longer than any path of the system.
     LongName,
 }
@@ -38,6 +40,7 @@ pub(crate) fn add_cause(
     let known = match fault {
         FileFault::TooLong => Some("more than 1 GiB, or no end"),
         FileFault::IsRead => Some("the same line reads it"),
+        FileFault::IsWritten => Some("the same line writes it twice"),
         FileFault::LongName => Some("a name that is too long"),
         FileFault::System(kind) => known_cause(kind, doing),
     };

@@ -11,6 +11,8 @@ pub struct FileFaults {
     pub lines: Option<FileFault>,
     /// The file that is written, or one of those of ends.
     pub written: Option<FileFault>,
+    /// Whether that is the second file which is written.
+    pub is_beside: bool,
     /// Standard output.
     pub output: Option<FileFault>,
 }
@@ -23,6 +25,7 @@ impl FileFaults {
         second: None,
         lines: None,
         written: None,
+        is_beside: false,
         output: None,
     };
 }

@@ -214,7 +214,12 @@ pub(crate) fn add_unwritten(
             return add_cause(why, Doing::Writing, hint, alloc);
         }
     }
-    if let Some(name) = line.files().written {
+    let files = line.files();
+    if fault.files.is_beside {
+        if let Some(name) = files.beside {
+            add_named(name, "written", "the log for Konata", hint, alloc)?;
+        }
+    } else if let Some(name) = files.written {
         add_named(name, "written", written_role(line), hint, alloc)?;
     }
     add_cause(why, Doing::Writing, hint, alloc)

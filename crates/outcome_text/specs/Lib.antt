@@ -1,4 +1,5 @@
 pub mod Answers
+pub mod How
 pub mod Line
 pub mod Listing
 pub mod Unwritten

@@ -1,6 +1,6 @@
 -- What is printed of the outcomes that a search has found. (This project's own choice, after the tools
 -- for litmus tests.)
-use Rattle.std.specs.Prelude.{ℕ, Bool, true, false, List, ◌++◌, codes, length}
+use Rattle.std.specs.Prelude.{ℕ, Bool, true, false, List, ◌++◌, codes, length, Option}
 use Rattle.std.specs.Fmt.{decimal}
 use Rattle.report_lines.specs.Lines.{count_line}
 use Rattle.searches.specs.declared.extent.Extent.{Extent}
@@ -8,7 +8,7 @@ use Rattle.searches.specs.declared.extent.Extent.TheVariants.{Whole, Beyond, Fir
 use Rattle.outcomes.specs.{Found.Told, Found.Found}
 use Rattle.outcome_queries.specs.declared.watched.Asked.{Asked}
 use Rattle.text_fields.specs.Each.{each_from}
-use Rattle.outcome_text.specs.{Line.outcome_line, Unwritten.unwritten_text}
+use Rattle.outcome_text.specs.{Line.outcome_line, Unwritten.unwritten_text, How.how_text, declared.how.How.How}
 
 -- Whether each state can go on to an end.
 abbrev pub ends_text : Bool → List ℕ
@@ -32,13 +32,14 @@ extent_text words unwritten is_stuck budget answer Whole = whole_text words unwr
 extent_text words unwritten is_stuck budget answer Beyond = answer ++ incomplete_text budget
 extent_text words unwritten is_stuck budget answer First = answer ++ codes "not complete: first\n"
 
--- The whole text: a line for each outcome, how many there are, how many states were found, whether these are all, and
--- the answer to the question, if there is one.
+-- The whole text: a line for each outcome, how many there are, how many states were found, and of other searches, where
+-- that is asked, whether these are all, and the answer to the question, if there is one.
 abbrev pub told_line : List Asked → List Asked → ℕ → Told → List ℕ
 told_line registers words index told = outcome_line registers words told.ending
 
-unfoldable pub outcomes_text : List Asked → List Asked → Found → Bool → ℕ → List ℕ → List ℕ
-outcomes_text registers words found is_stuck budget answer = each_from (told_line registers words) 0 found.listed
+unfoldable pub outcomes_text : List Asked → List Asked → Found → Bool → ℕ → Option How → List ℕ → List ℕ
+outcomes_text registers words found is_stuck budget how answer = each_from (told_line registers words) 0 found.listed
     ++ (count_line (codes "outcomes") (length found.listed)
     ++ (count_line (codes "states") found.states
-    ++ extent_text words found.unwritten is_stuck budget answer found.extent))
+    ++ (how_text how
+    ++ extent_text words found.unwritten is_stuck budget answer found.extent)))

@@ -3,10 +3,12 @@
 //! nothing; and what is answered to a question about all of them.
 //!
 //! Read in this order: `line` (the line of an outcome), `unwritten` (the places in memory that are watched for
-//! nothing), `listing` (the whole text), `answers` (what is answered to a question).
+//! nothing), `how` (how many states searches have found), `listing` (the whole text), `answers` (what is answered to a
+//! question).
 #![tactic(auto)]
 
 mod answers;
+mod how;
 mod line;
 mod listing;
 mod unwritten;
@@ -15,5 +17,6 @@ pub use answers::{
     answer_of, answer_words, names_lines, question_words, settled, settles, write_answer,
     write_place,
 };
+pub use how::{How, StateCount, count_of};
 pub use line::{write_line, write_watched};
 pub use listing::{ends_text, write_incomplete, write_outcomes};

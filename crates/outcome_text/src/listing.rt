@@ -8,6 +8,7 @@ ghost use Rattle.outcome_text.specs.Listing.{told_line, ends_text, whole_text, e
 ghost use Rattle.outcome_text.specs.Listing.{outcomes_text, incomplete_text};
 ghost use Rattle.searches.specs.declared.extent.Extent.TheVariants.{Whole};
 
+use crate::how::{How, write_how};
 use crate::line::write_line;
 use crate::unwritten::write_unwritten;
 use arrayvec::ArrayString;
@@ -19,7 +20,7 @@ use std::io::Write;
 use text_fields::push_decimal;
 
 /// Writes the outcomes of a program that a search has found, of which this was watched: a line for each, how many
-/// there are, and how many states were found. Behind that, of a whole search, that these are all, whether a state
+/// there are, how many states were found, and the line of how, where there is one. Behind that, of a whole search, that these are all, whether a state
 /// can't go on to an end, a line for each place in memory that is watched for nothing, and the answer's line; of a
 /// part the answer's line, and that there are more than so many states, which were to be looked at, or that the search
 /// has ended with the first outcome that answers. Where it answers Ok, it has written exactly these lines.
@@ -29,15 +30,18 @@ pub fn write_outcomes<W: Write>(
     columns: &Columns<'_>,
     is_stuck: bool,
     budget: u32,
+    how: &Option<How>,
     answer: &[u8],
     out: &mut W,
 ) -> io::Result<()>
     ensures { OnOk result (Appends (W.contents out.old) (W.contents out.new)
-        (outcomes_text columns.now.registers.items columns.now.words.items outcomes.now is_stuck budget answer.now)) }
+        (outcomes_text columns.now.registers.items columns.now.words.items outcomes.now is_stuck budget how.now
+        answer.now)) }
 {
     write_lines(outcomes, columns, out)?;
     report_count("outcomes", outcomes.count() as u64, out)?;
     report_count("states", outcomes.states(), out)?;
+    write_how(how, out)?;
     write_extent(outcomes, columns, is_stuck, budget, answer, out)
 }
 

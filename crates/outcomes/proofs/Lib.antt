@@ -13,3 +13,4 @@ mod Cores
 mod Reading
 mod Claims
 mod Programs
+mod Searching

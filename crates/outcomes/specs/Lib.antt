@@ -7,4 +7,5 @@ pub mod Reached
 pub mod Refusals
 pub mod Passes
 pub mod Parts
+pub mod Searched
 pub mod Goals

@@ -1,6 +1,6 @@
 //! The search for all outcomes of a program, or for some.
 
-ghost use Rattle.std.specs.Prelude.{◌≡◌, true, Contains, IfOk, IfErr, OnOk};
+ghost use Rattle.std.specs.Prelude.{◌≡◌, true, false, Contains, IfOk, IfErr, OnOk};
 ghost use Rattle.condensed_machine.specs.Decoded.{Knows};
 ghost use Rattle.condensed_machine.specs.Machine.{IsSound};
 ghost use Rattle.condensed_machine.specs.Steps.{Steps, HasBegun};
@@ -11,6 +11,7 @@ ghost use Rattle.outcomes.specs.{Found.IsOnce, Parts.IsListing, Parts.IsAskedFor
 ghost use Rattle.outcomes.specs.{Collected.IsAskedAt, Ended.AreEnds};
 ghost use Rattle.outcomes.specs.Refusals.{IsRefusedFor, AreWords, AreWatched};
 ghost use Rattle.outcomes.specs.Passes.{IsUnfoundFor, IsCutShort};
+ghost use Rattle.outcomes.specs.Searched.{IsSearchedBy, IsSearchedFor, IsSearchedWith};
 ghost use Rattle.watched_outcomes.specs.Watching.{AreThere};
 
 use crate::ending_goal::EndingGoal;
@@ -23,6 +24,7 @@ use crate::until::Until;
 use condensed_machine::{Begun, CondensedMachine, State, Way};
 use elf_image::Image;
 use live_registers::Targets;
+use reductions::Without;
 use sc_machine::PlainRefused;
 use searches::{Explored, Onlooker, Unmade, explore};
 use std::alloc::{AllocError, Global};
@@ -41,11 +43,14 @@ const MOST_PASSES: u8 = 64;
 ///
 /// Where there are more states than the budget, the search goes on as far as some ends, and tells what it has found
 /// until then. It ends early with the first outcome that `until` asks for.
+///
+/// The reductions that it is to be without are left out. They change which states are visited, and none of this.
 pub fn find_outcomes<O: Onlooker, U: Until>(
     image: &Image,
     harts: u8,
     watch: &Watch,
     budget: u32,
+    without: Without,
     onlooker: &O,
     until: &U,
     alloc: Global,
@@ -55,6 +60,32 @@ pub fn find_outcomes<O: Onlooker, U: Until>(
     ensures asked { IfOk result (IsAskedFor (U.Asks until.now)) }
     ensures present { OnOk result (AreThere harts watch.now × AreWords image.now watch.now) }
     ensures refused { IfErr result (IsRefusedFor image.now harts watch.now) }
+    ensures searched { IfOk result (IsSearchedFor image.now harts without budget) }
+{
+    if without.jumps {
+        return find_anywhere(image, harts, watch, budget, without, onlooker, until, alloc);
+    }
+    find_in_passes(image, harts, watch, budget, without, onlooker, until, alloc)
+}
+
+/// The outcomes of a program whose harts are taken to jump by registers only where it was seen: in passes, until none
+/// sees another jump.
+fn find_in_passes<O: Onlooker, U: Until>(
+    image: &Image,
+    harts: u8,
+    watch: &Watch,
+    budget: u32,
+    without: Without,
+    onlooker: &O,
+    until: &U,
+    alloc: Global,
+) -> Result<Outcomes, OutcomesRefused>
+    ensures found { IfOk result (IsListing image.now harts watch.now budget) }
+    ensures once { IfOk result IsOnce }
+    ensures asked { IfOk result (IsAskedFor (U.Asks until.now)) }
+    ensures present { OnOk result (AreThere harts watch.now × AreWords image.now watch.now) }
+    ensures refused { IfErr result (IsRefusedFor image.now harts watch.now) }
+    ensures searched { IfOk result (IsSearchedWith image.now harts without false budget) }
 {
     let Ok(mut targets) = first_jumps(image, harts, alloc) else {
         return Err(OutcomesRefused::Memory);
@@ -63,7 +94,9 @@ pub fn find_outcomes<O: Onlooker, U: Until>(
         let Ok(seen) = copy_of(&targets, alloc) else {
             return Err(OutcomesRefused::Memory);
         };
-        match find_within(image, harts, watch, budget, onlooker, until, seen, alloc) {
+        match find_within(
+            image, harts, watch, budget, without, onlooker, until, seen, alloc,
+        ) {
             Ok(found) => return Ok(found),
             Err(Unfound::Refused(why)) => return Err(why),
             Err(Unfound::Lacks(jump)) => {
@@ -73,7 +106,7 @@ pub fn find_outcomes<O: Onlooker, U: Until>(
             }
         }
     }
-    find_anywhere(image, harts, watch, budget, onlooker, until, alloc)
+    find_anywhere(image, harts, watch, budget, without, onlooker, until, alloc)
 }
 
 /// The same targets. Errors: want of memory.
@@ -93,6 +126,7 @@ fn find_anywhere<O: Onlooker, U: Until>(
     harts: u8,
     watch: &Watch,
     budget: u32,
+    without: Without,
     onlooker: &O,
     until: &U,
     alloc: Global,
@@ -102,10 +136,11 @@ fn find_anywhere<O: Onlooker, U: Until>(
     ensures asked { IfOk result (IsAskedFor (U.Asks until.now)) }
     ensures present { OnOk result (AreThere harts watch.now × AreWords image.now watch.now) }
     ensures refused { IfErr result (IsRefusedFor image.now harts watch.now) }
+    ensures searched { IfOk result (IsSearchedWith image.now harts without true budget) }
 {
     let anywhere = Targets::anywhere(alloc);
     match find_within(
-        image, harts, watch, budget, onlooker, until, anywhere, alloc,
+        image, harts, watch, budget, without, onlooker, until, anywhere, alloc,
     ) {
         Ok(found) => Ok(found),
         Err(Unfound::Refused(why)) => Err(why),
@@ -119,6 +154,7 @@ fn find_within<O: Onlooker, U: Until>(
     harts: u8,
     watch: &Watch,
     budget: u32,
+    without: Without,
     onlooker: &O,
     until: &U,
     targets: Targets,
@@ -129,8 +165,9 @@ fn find_within<O: Onlooker, U: Until>(
     ensures asked { IfOk result (IsAskedFor (U.Asks until.now)) }
     ensures present { OnOk result (AreThere harts watch.now × AreWords image.now watch.now) }
     ensures unfound { IfErr result (IsUnfoundFor image.now harts watch.now targets) }
+    ensures searched { IfOk result (IsSearchedWith image.now harts without targets.anywhere budget) }
 {
-    let machine = match new_machine(image, harts, watch, targets, alloc) {
+    let machine = match new_machine(image, harts, watch, targets, without, alloc) {
         Ok(machine) => machine,
         Err(why) => return Err(Unfound::Refused(why)),
     };
@@ -143,10 +180,12 @@ fn new_machine(
     harts: u8,
     watch: &Watch,
     targets: Targets,
+    without: Without,
     alloc: Global,
 ) -> Result<CondensedMachine, OutcomesRefused>
     ensures image { IfOk result (λ machine. machine.program.image ≡ image.now) }
     ensures harts { IfOk result (λ machine. machine.program.harts ≡ harts) }
+    ensures without { IfOk result (λ machine. machine.program.without ≡ without) }
     ensures sound { IfOk result (λ machine. IsSound machine.program) }
     ensures watched { IfOk result (λ machine. AreWatched machine.program.watched watch.now) }
     ensures anywhere { IfOk result (λ machine. targets.anywhere ≡ true
@@ -154,7 +193,14 @@ fn new_machine(
     ensures refused { IfErr result
         (IsRefusedFor image.now harts watch.now) }
 {
-    match CondensedMachine::new(image, harts, watch.registers_watched(), targets, alloc) {
+    match CondensedMachine::new(
+        image,
+        harts,
+        watch.registers_watched(),
+        targets,
+        without,
+        alloc,
+    ) {
         Ok(machine) => Ok(machine),
         Err(PlainRefused::Harts) => Err(OutcomesRefused::Harts),
         Err(PlainRefused::Memory) => Err(OutcomesRefused::Memory),
@@ -188,6 +234,7 @@ fn search_all<O: Onlooker, U: Until>(
         × AreWords machine.program.image watch.now) }
     ensures unfound { IfErr result (IsUnfoundFor machine.program.image machine.program.harts watch.now
         machine.program.targets) }
+    ensures searched { IfOk result (IsSearchedBy machine.program budget) }
 {
     let mut machine = machine;
     match see_all(&mut machine, watch, budget, onlooker, until, alloc) {
@@ -317,6 +364,7 @@ fn outcomes_of<U: Until>(
     ensures found { IsListing machine.program.image machine.program.harts watch.now budget result }
     ensures once { IsOnce result }
     ensures asked { IsAskedFor (U.Asks until.now) result }
+    ensures searched { IsSearchedBy machine.program budget result }
 {
     let harts = machine.harts();
     let Seen {

@@ -22,6 +22,8 @@ use Rattle.address_labels.specs.Labels.{Marks}
 use Rattle.story_text.specs.Text.{Plan}
 use Rattle.outcome_queries.specs.{declared.term.Term.Term, Harts.IsHartThere}
 use Rattle.std.specs.List.{All}
+use Rattle.outcome_text.specs.{declared.how.How.How}
+use Rattle.plain_commands.specs.How.{IsHowOf}
 use Rattle.plain_commands.specs.Questions.{IsQuestionOf, terms_asked}
 use Rattle.plain_commands.specs.WrittenOrders.{line_wanted, order_wanted, wants_order}
 use Rattle.sim_inputs.specs.Files.{written_of_outcomes, written_order}
@@ -211,18 +213,21 @@ module _ {S : Type 0} (written : S → Option (List ℕ)) (has_failed : S → Bo
     (image : ProgramImage) (command : OutcomesCommand) (plan : Plan) (all : List Asked) (watch : Watch)
     (question : Option Question) (found : Found) where
   -- It has told what was found, and put the picture or its order.
-  pub told_so : (order line picture : Option (List ℕ)) (why : List ℕ) (old new : Option (List ℕ)) (status : ℕ)
+  pub told_so : (order line picture : Option (List ℕ)) (how : Option How)
+      (why : List ℕ) (old new : Option (List ℕ)) (status : ℕ)
       → order ≡ order_wanted command watch question found → line ≡ line_wanted command all watch question found
-      → IsDrawnFor command picture → IsWhyOf command why
+      → IsDrawnFor command picture → IsHowOf image settings.config.harts watch command found how → IsWhyOf command why
       → HasPutWanted written has_failed before after settings image command plan picture order line
-      → Appends old new (found_text command all watch question found ++ why)
+      → Appends old new (found_text command all watch question how found ++ why)
       → status ≡ status_found watch question found
       → HasTold settings image command plan all watch question found (HasPutText written has_failed before after) old new
       status
-  told_so order line None why old new status wanted closed drawn is_why put printed is =
+  told_so order line None how why old new status wanted closed drawn is_how is_why put printed is =
       let text = text_put written has_failed before after settings image command plan order line put in
       record {
         text = text.0;
+        how = how;
+        is_how = is_how;
         why = why;
         is_why = is_why;
         printed = printed;
@@ -230,9 +235,11 @@ module _ {S : Type 0} (written : S → Option (List ℕ)) (has_failed : S → Bo
         is_text = λ undrawn. rw (sym wanted, sym closed) text.1;
         put = text.2;
       }
-  told_so order line (Some picture) why old new status wanted closed drawn is_why put printed is =
+  told_so order line (Some picture) how why old new status wanted closed drawn is_how is_why put printed is =
       record {
         text = Some picture;
+        how = how;
+        is_how = is_how;
         why = why;
         is_why = is_why;
         printed = printed;

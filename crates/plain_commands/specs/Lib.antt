@@ -7,6 +7,7 @@ pub mod ShownStates
 pub mod Retiring
 pub mod Questions
 pub mod WrittenOrders
+pub mod How
 pub mod Outcomes
 pub mod Litmus
 pub mod Suite

@@ -10,7 +10,7 @@ use Rattle.watched_outcomes.specs.{Watching.is_register_there, Watching.AreThere
 use Rattle.searches.specs.declared.extent.Extent.{Extent}
 use Rattle.searches.specs.declared.extent.Extent.TheVariants.{Whole}
 use Rattle.outcomes.specs.{Found.Found, Found.IsOnce, Parts.IsListing, Parts.IsAskedFor}
-use Rattle.outcomes.specs.{Refusals.AreWords, Refusals.CanLoad}
+use Rattle.outcomes.specs.{Refusals.AreWords, Refusals.CanLoad, Searched.IsSearchedFor}
 use Rattle.smt_model.specs.Setup.{Setup}
 use Rattle.event_text.specs.Sinking.{HasPut}
 use Rattle.address_labels.specs.Labels.{Marks}
@@ -26,6 +26,8 @@ use Rattle.outcome_queries.specs.Watches.{IsOnceBehind, IsWatchedFor, LacksRoom}
 use Rattle.outcome_queries.specs.Harts.{absent_hart, IsHartThere}
 use Rattle.outcome_queries.specs.Lists.{IsRefusedFor as IsMisspelledFor}
 use Rattle.outcome_text.specs.{Listing.outcomes_text, Answers.answer_text, Answers.answer_of}
+use Rattle.outcome_text.specs.{declared.how.How.How}
+use Rattle.plain_commands.specs.How.{IsHowOf}
 use Rattle.sim_inputs.specs.{declared.settings.Settings.Settings}
 use Rattle.sim_inputs.specs.{declared.line.OutcomesCommand.OutcomesCommand}
 use Rattle.command_parts.specs.{declared.refused.Refused.Refused}
@@ -55,14 +57,16 @@ pub record IsWatchOf (watch : Watch) (all : List Asked) : Type 0 where
   pub words : watch.words.items ≡ words_in all
 
 -- What was found: outcomes of the program, each once and with an order that leads to it; where the search was whole
--- all of them, and every core ends as one of them says. All that is watched is there. Where the search has ended with
--- the first outcome that settles the question, that was wanted, and it is listed.
+-- all of them, and every core ends as one of them says. All that is watched is there. The states are those of a search
+-- without the reductions that are left out. Where it has ended with the first outcome that settles the question, that
+-- was wanted, and it is listed.
 abbrev pub IsFirstWanted : OutcomesCommand → Watch → Option Question → Found → Type 0
 IsFirstWanted command watch question found =
     IsAskedFor (λ ending. (command.first ≡ true) × (settles watch question ending ≡ true)) found
 
 pub record IsFound (settings : Settings) (image : ProgramImage) (command : OutcomesCommand) (watch : Watch)
     (question : Option Question) (found : Found) : Type 0 where
+  pub searched : IsSearchedFor image settings.config.harts command.without command.states found
   pub listing : IsListing image settings.config.harts watch command.states found
   pub once : IsOnce found
   pub first : IsFirstWanted command watch question found
@@ -111,10 +115,10 @@ plan_for settings names marks command = record {
   marks = marks;
 }
 
--- What is printed of what was found, with the answer.
-abbrev pub found_text : OutcomesCommand → List Asked → Watch → Option Question → Found → List ℕ
-found_text command all watch question found = outcomes_text (registers_asked all) (memory_asked all) found
-    (is_some (stuck_told found)) command.states (question_text watch question found)
+-- What is printed of what was found, with how many states searches have, where that is told, and the answer.
+abbrev pub found_text : OutcomesCommand → List Asked → Watch → Option Question → Option How → Found → List ℕ
+found_text command all watch question how found = outcomes_text (registers_asked all) (memory_asked all) found
+    (is_some (stuck_told found)) command.states how (question_text watch question found)
 
 -- Why a condition holds of none is told in lines, of which nothing is said but that there are none where it isn't
 -- asked; and a picture is drawn of that where one is wanted alone.
@@ -132,15 +136,18 @@ HasPutWanted written has_failed old new settings image command plan None order l
 HasPutWanted written has_failed old new settings image command plan (Some picture) order line =
     HasPut written has_failed old new picture
 
--- It is printed, behind it why, where that is asked; and of the same an order is written, where one is wanted and there
--- is one, and no picture of why has its file. `Put` says what was written.
+-- It is printed, with how many states other searches have and behind it why, where these are asked; and of the same an
+-- order is written, where one is wanted and there is one, and no picture of why has its file. `Put` says what was
+-- written.
 pub record HasTold (settings : Settings) (image : ProgramImage) (command : OutcomesCommand) (plan : Plan)
     (all : List Asked) (watch : Watch) (question : Option Question) (found : Found) (Put : Option (List ℕ) → Type 0)
     (old new : Option (List ℕ)) (exit_status : ℕ) : Type 0 where
   pub text : Option (List ℕ)
+  pub how : Option How
+  pub is_how : IsHowOf image settings.config.harts watch command found how
   pub why : List ℕ
   pub is_why : IsWhyOf command why
-  pub printed : Appends old new (found_text command all watch question found ++ why)
+  pub printed : Appends old new (found_text command all watch question how found ++ why)
   pub status : exit_status ≡ status_found watch question found
   pub is_text : is_some command.svg ≡ false → IsTextIf command (setup_of image settings.config) settings.limit plan
       (order_wanted command watch question found) (line_wanted command all watch question found) text

@@ -18,6 +18,7 @@ ghost use Rattle.plain_commands.specs.WrittenOrders.{IsTextRefusal, is_answer_wa
 ghost use Rattle.sim_inputs.specs.Files.{written_of_outcomes};
 
 use crate::asking::{question_of, see_harts, terms_asked, watched_for};
+use crate::how::how_told;
 use crate::outcome_why::{Told, outcome_why};
 use crate::searching::find_shown;
 use crate::settling::{FirstSettling, status_of_answer, status_of_extent};
@@ -28,7 +29,7 @@ use address_labels::Labels;
 use command_parts::{Context, Refused, put_text};
 use elf_image::Image;
 use outcome_queries::{Question, WatchList, columns_of, watch_of};
-use outcome_text::{answer_of, write_answer, write_outcomes};
+use outcome_text::{How, answer_of, write_answer, write_outcomes};
 use outcomes::{Extent, Outcomes, OutcomesRefused};
 use sim_inputs::{OutcomesCommand, Settings};
 use std::alloc::Global;
@@ -39,9 +40,10 @@ use symbols::Symbols;
 use watched_outcomes::Watch;
 
 /// Writes a line for each outcome of an image that is found, for as many harts as the settings say, how many there
-/// are, whether these are all, whether each state can go on to an end, the answer to the command's question, and why its
-/// condition holds of none, where that is asked. The picture of that goes into the context's files first, or an order
-/// that is wanted, as it is, as its script, as its story or as a picture of that.
+/// are, how many states were found, and how many without each reduction, where that is asked, whether these are all,
+/// whether each state can go on to an end, the answer to the command's question, and why its condition holds of none,
+/// where that is asked. The picture of that goes into the context's files first, or an order that is wanted, as it is,
+/// as its script, as its story or as a picture of that.
 ///
 /// Answers the exit status: of a question 0 where it is so, 1 where it isn't, and 3 where what was found doesn't tell;
 /// without a question 0 where these are all outcomes, else 3. Refused are, in this order, a condition or a list that is
@@ -141,7 +143,8 @@ fn search<R, G: Gate, P, S: EndFiles, W: Write>(
         first: command.first,
     };
     let (gate, alloc) = (context.gate, context.alloc);
-    match find_shown(image, harts, watch, command.states, gate, &until, alloc) {
+    let (budget, without) = (command.states, command.without);
+    match find_shown(image, harts, watch, budget, without, gate, &until, alloc) {
         Ok(outcomes) => tell(
             context, image, settings, command, form, &outcomes, watch, list, question,
         ),
@@ -184,6 +187,11 @@ fn tell<R, G: Gate, P, S: EndFiles, W: Write>(
         Ok(order) => order.is_some(),
         Err(refused) => return Err(refused),
     };
+    let harts = settings.config.harts;
+    let how = match how_told(image, harts, watch, command, outcomes, context.gate, alloc) {
+        Ok(how) => how,
+        Err(refused) => return Err(refused),
+    };
     let line = match line_wanted(command, outcomes, list, watch, question, alloc) {
         Ok(line) => line,
         Err(refused) => return Err(refused),
@@ -222,6 +230,7 @@ fn tell<R, G: Gate, P, S: EndFiles, W: Write>(
         watch,
         is_stuck,
         command,
+        &how,
         question,
         why.text.as_slice(),
         &mut context.out,
@@ -299,6 +308,7 @@ fn print_found<W: Write>(
     watch: &Watch,
     is_stuck: bool,
     command: &OutcomesCommand<'_>,
+    how: &Option<How>,
     question: &Option<Question<'_>>,
     why: &[u8],
     out: &mut W,
@@ -306,7 +316,7 @@ fn print_found<W: Write>(
 ) -> Result<u8, Refused>
     requires stuck { is_stuck ≡ is_some (stuck_told outcomes.now) }
     ensures printed { OnOk result (Appends (W.contents out.old) (W.contents out.new)
-        (found_text command.now list.now.items watch.now question.now outcomes.now ++ why.now)) }
+        (found_text command.now list.now.items watch.now question.now how.now outcomes.now ++ why.now)) }
     ensures status { IfOk result (λ status. status ≡ status_found watch.now question.now outcomes.now) }
     ensures refused { IfErr result IsWant }
 {
@@ -321,6 +331,7 @@ fn print_found<W: Write>(
         &columns,
         is_stuck,
         command.states,
+        how,
         text.as_slice(),
         out,
     ) {

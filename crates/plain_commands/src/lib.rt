@@ -4,8 +4,9 @@
 //! a core retire in an order), `all_outcomes` and `litmus` (both over `searching`), `suite` (many litmus tests:
 //! `litmus_summary` has the line of one, `telling` what is printed of each, `test_source` where they come from).
 //! Beside `all_outcomes` stand `asking` (its question, and what is watched), `settling` (which outcome answers it),
-//! `written_orders` (the order that it writes) and `outcome_why` (why a condition holds of none), beside `litmus` `test_parts` (what it makes ready), `state_orders`
-//! (the order that it writes), `why` (why its condition holds of no state, or how it comes to hold of one),
+//! `written_orders` (the order that it writes), `how` (how many states its search has, and others) and `outcome_why`
+//! (why a condition holds of none), beside `litmus` `test_parts` (what it makes ready), `state_orders` (the order that
+//! it writes), `why` (why its condition holds of no state, or how it comes to hold of one),
 //! `shown_states` (which one) and `told_states` (how that one is told and drawn), and beside `plain` too
 //! `drawn_orders` (the picture of an order's story). `retiring` has the law that a printed schedule is retired. What
 //! each command comes to, and when each of its refusals comes, stands in `specs` under the command's name.
@@ -14,6 +15,7 @@
 mod all_outcomes;
 mod asking;
 mod drawn_orders;
+mod how;
 mod litmus;
 mod litmus_summary;
 mod outcome_why;

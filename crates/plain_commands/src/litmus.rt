@@ -25,6 +25,7 @@ use litmus_tests::LitmusTest;
 use litmus_text::{holds_of_any, write_states};
 use outcome_text::{ends_text, write_incomplete};
 use outcomes::{Extent, Outcomes};
+use reductions::Without;
 use sim_inputs::{LitmusCommand, Settings};
 use std::alloc::{AllocError, Global};
 use std::io::Write;
@@ -112,6 +113,7 @@ pub fn perform_test<G: Gate, S: EndFiles, W: Write>(
         harts_of(test),
         &watch,
         command.states,
+        Without::none(),
         gate,
         &(),
         alloc,

@@ -19,6 +19,7 @@ use litmus_suites::{TestLine, Verdict};
 use litmus_tests::LitmusTest;
 use litmus_text::verdict_of;
 use outcomes::{Extent, Outcomes};
+use reductions::Without;
 use shown_text::write_shown;
 use std::alloc::Global;
 
@@ -66,7 +67,16 @@ fn verdict_in<G: Gate>(
         return Err(Refused::Memory);
     };
     let watch = watch_of(test);
-    match find_shown(&image, harts_of(test), &watch, states, gate, &(), alloc) {
+    match find_shown(
+        &image,
+        harts_of(test),
+        &watch,
+        states,
+        Without::none(),
+        gate,
+        &(),
+        alloc,
+    ) {
         Ok(outcomes) => match outcomes.extent() {
             Extent::Whole => whole_verdict(test, &outcomes, alloc),
             Extent::Beyond | Extent::First => Ok(Verdict::NotComplete),

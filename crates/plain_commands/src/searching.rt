@@ -1,7 +1,7 @@
 //! The search for all outcomes, and who is shown how far it is.
 
 ghost use Rattle.std.specs.Prelude.{IfOk, IfErr, OnOk};
-ghost use Rattle.outcomes.specs.{Found.IsOnce, Parts.IsAskedFor, Parts.IsListing};
+ghost use Rattle.outcomes.specs.{Found.IsOnce, Parts.IsAskedFor, Parts.IsListing, Searched.IsSearchedFor};
 ghost use Rattle.outcomes.specs.Refusals.{IsRefusedFor, AreWords};
 ghost use Rattle.watched_outcomes.specs.Watching.{AreThere};
 
@@ -9,6 +9,7 @@ use actors::Gate;
 use elf_image::Image;
 use litmus_cycles::ChoiceOnlooker;
 use outcomes::{Onlooker, Outcomes, OutcomesRefused, Until, find_outcomes};
+use reductions::Without;
 use std::alloc::Global;
 use watched_outcomes::Watch;
 
@@ -36,24 +37,35 @@ impl<G: Gate> ChoiceOnlooker for Tried<'_, G> {
     }
 }
 
-/// Finds outcomes of a program, as `find_outcomes` does; `gate` is shown how far it is.
+/// Finds outcomes of a program, as `find_outcomes` does, without these reductions; `gate` is shown how far it is.
 pub fn find_shown<G: Gate, U: Until>(
     image: &Image,
     harts: u8,
     watch: &Watch,
     budget: u32,
+    without: Without,
     gate: &G,
     until: &U,
     alloc: Global,
 ) -> Result<Outcomes, OutcomesRefused>
     ensures asked { IfOk result (IsAskedFor (U.Asks until.now)) }
     ensures found { IfOk result (IsListing image.now harts watch.now budget) }
+    ensures searched { IfOk result (IsSearchedFor image.now harts without budget) }
     ensures once { IfOk result IsOnce }
     ensures present { OnOk result (AreThere harts watch.now × AreWords image.now watch.now) }
     ensures refused { IfErr result (IsRefusedFor image.now harts watch.now) }
 {
     gate.begin_search();
-    let found = find_outcomes(image, harts, watch, budget, &Shown { gate }, until, alloc);
+    let found = find_outcomes(
+        image,
+        harts,
+        watch,
+        budget,
+        without,
+        &Shown { gate },
+        until,
+        alloc,
+    );
     gate.end();
     found
 }

@@ -5,9 +5,9 @@
 //! Read in this order: `streams` (what stands in place of closed standard streams), `words` (how the words are taken,
 //! and what is said of those that are refused), `files` (what is read, whole and no longer than a file may be),
 //! `read_files` (which files are spared), `read_inputs` (what those hold that a line names), `output_name` and
-//! `output_file` (how one file is written), `output_files` (all that a line writes, as a sink), `test_names` (the tests
-//! of a line by their names: `test_folder` and `test_list` have those in a folder and in a list), `test_files` (their
-//! texts), `suite` (a line of several tests), `noting` (a writer that keeps its failure), `hinting` (the hint behind a
+//! `output_file` (how one file is written), `two_files` (how two are at once), `output_files` (all that a line writes, as
+//! a sink), `test_names` (the tests of a line by their names: `test_folder` and `test_list` have those in a folder and in
+//! a list), `test_files` (their texts), `suite` (a line of several tests), `noting` (a writer that keeps its failure), `hinting` (the hint behind a
 //! fault), `performing` (all that the program does with its words), `progress` (the gate of the program's runs).
 #![tactic(auto)]
 
@@ -27,6 +27,7 @@ mod test_files;
 mod test_folder;
 mod test_list;
 mod test_names;
+mod two_files;
 mod words;
 
 pub use files::{ReadRefused, read_file, read_to_end};

@@ -8,7 +8,7 @@ ghost use Rattle.std.specs.Prelude.{◌≢◌, ◌≤◌, [], length, IfOk};
 
 use crate::noting::Noting;
 use crate::output_name::{OutputName, path_beside};
-use event_text::{Over, Sink};
+use event_text::{Broken, Over, Sink};
 use fault_hints::FileFault;
 use std::fs;
 use std::fs::{Metadata, OpenFile, OpenOptions};
@@ -67,6 +67,23 @@ impl<'a, S: Files> OutputFile<'a, S> {
             Ok(count) => Ok((count, self)),
             Err(_) => Err(self.give_up()),
         }
+    }
+
+    /// Puts all of these bytes into the file; or gives it up, and answers why it takes no more.
+    pub(crate) fn put_all(mut self, bytes: &[u8]) -> Result<Self, FileFault> {
+        match self.take_all(bytes) {
+            Ok(()) => Ok(self),
+            Err(_) => Err(self.give_up()),
+        }
+    }
+
+    fn take_all(&mut self, bytes: &[u8]) -> Result<(), Broken> {
+        let mut rest = bytes;
+        while !rest.is_empty() {
+            let count = self.sink.put(rest)?;
+            rest = &rest[count..];
+        }
+        Ok(())
     }
 
     /// Removes what was put, and answers why the file takes no more.

@@ -5,6 +5,7 @@ ghost use Rattle.std.specs.Prelude.{◌≡◌, None, Some, false, is_some, not, 
 use crate::output_file::OutputFile;
 use crate::output_name::OutputName;
 use crate::read_files::{ReadFiles, is_read};
+use crate::two_files::{TwoFiles, Unwritten, are_one_place};
 use event_text::{Broken, Sink};
 use fault_hints::FileFault;
 use std::fs;
@@ -17,6 +18,8 @@ use stress_runs::{EndFiles, Part};
 pub struct Places<'a> {
     /// The file of a trace, of a chart, or of what else is one file.
     pub file: Option<&'a str>,
+    /// The second file, of a chart that is two.
+    pub beside: Option<&'a str>,
     /// The folder for the files of ends.
     pub folder: Option<&'a str>,
     /// The files that the line reads, of which none is written over.
@@ -33,6 +36,8 @@ pub struct OutputFiles<'a, S: Files> {
     current: Option<OutputFile<'a, S>>,
     /// Why one of them can't be written, once that has come up.
     fault: Option<FileFault>,
+    /// Whether that is the second file.
+    is_beside: bool,
 }
 
 impl<'a, S: Files> OutputFiles<'a, S> {
@@ -47,6 +52,7 @@ impl<'a, S: Files> OutputFiles<'a, S> {
             places,
             current: None,
             fault: None,
+            is_beside: false,
         }
     }
 
@@ -62,6 +68,11 @@ impl<'a, S: Files> OutputFiles<'a, S> {
         ensures { result ≡ self.now.fault }
     {
         self.fault
+    }
+
+    /// Whether the one that can't be written is the second file of a chart that is two.
+    pub fn is_beside(&self) -> bool {
+        self.is_beside
     }
 
     /// From now on it has failed, for this.
@@ -81,10 +92,7 @@ impl<'a, S: Files> OutputFiles<'a, S> {
         if let Some(file) = self.current.take() {
             return Ok(file);
         }
-        match self.places.file {
-            Some(name) => self.begun(OutputName::Given(name)),
-            None => Err(FileFault::System(ErrorKind::NotFound)),
-        }
+        self.begun_as(self.places.file)
     }
 
     /// A file of this name, begun, or why it can't be, also since the line reads it.
@@ -96,6 +104,58 @@ impl<'a, S: Files> OutputFiles<'a, S> {
             return Err(FileFault::IsRead);
         }
         OutputFile::begin(self.files, name)
+    }
+
+    /// The file of this name that the line gives, begun, or why it can't be.
+    fn begun_as(&self, name: Option<&'a str>) -> Result<OutputFile<'a, S>, FileFault> {
+        match name {
+            Some(name) => self.begun(OutputName::Given(name)),
+            None => Err(FileFault::System(ErrorKind::NotFound)),
+        }
+    }
+
+    /// Both files of a chart that is two, begun, or which of them can't be, and why.
+    fn two_begun(&self) -> Result<TwoFiles<'a, S>, Unwritten> {
+        let first = match self.begun_as(self.places.file) {
+            Ok(first) => first,
+            Err(why) => return Err(Unwritten::first(why)),
+        };
+        let beside = match self.beside_begun() {
+            Ok(beside) => beside,
+            Err(why) => {
+                first.discard();
+                return Err(Unwritten::beside(why));
+            }
+        };
+        Ok(TwoFiles { first, beside })
+    }
+
+    /// The second of them, begun behind the first. It may not be the same file, nor come to be it as it is begun.
+    fn beside_begun(&self) -> Result<OutputFile<'a, S>, FileFault> {
+        if self.are_one() {
+            return Err(FileFault::IsWritten);
+        }
+        let beside = match self.begun_as(self.places.beside) {
+            Ok(beside) => beside,
+            Err(fault) => return Err(fault),
+        };
+        if self.are_one() {
+            beside.discard();
+            return Err(FileFault::IsWritten);
+        }
+        Ok(beside)
+    }
+
+    fn are_one(&self) -> bool {
+        are_one_place(self.files, self.places.file, self.places.beside)
+    }
+
+    /// Writes both of them, each whole.
+    fn write_two(&self, first: &[u8], second: &[u8]) -> Result<(), Unwritten> {
+        match self.two_begun() {
+            Ok(files) => files.write(first, second),
+            Err(unwritten) => Err(unwritten),
+        }
     }
 }
 
@@ -151,6 +211,16 @@ impl<'a, S: Files> EndFiles for OutputFiles<'a, S> {
         match file.finish() {
             Ok(()) => Ok(()),
             Err(fault) => Err(self.fail(fault)),
+        }
+    }
+
+    fn put_two(&mut self, first: &[u8], second: &[u8]) -> Result<(), Broken> {
+        match self.write_two(first, second) {
+            Ok(()) => Ok(()),
+            Err(unwritten) => {
+                self.is_beside = unwritten.is_beside;
+                Err(self.fail(unwritten.why))
+            }
         }
     }
 }

@@ -213,6 +213,7 @@ impl<
         read.blank_comments(&line.command);
         let places = Places {
             file: files.written,
+            beside: files.beside,
             folder: folder_of(line),
             read: ReadFiles::of(&files),
         };
@@ -255,7 +256,8 @@ impl<
         let status = perform(context, line, &inputs, err);
         context.files.discard();
         if let Some(refused) = context.refused {
-            let files = read.faults_with(context.files.fault(), context.out.failure());
+            let mut files = read.faults_with(context.files.fault(), context.out.failure());
+            files.is_beside = context.files.is_beside();
             self.hint_of_line(refused, line, inputs, files, err);
         } else {
             self.hinting().tell_nameless(line, &inputs, status, err);
@@ -299,6 +301,7 @@ impl<
         let read = ReadInputs::of(self.system, &files, self.alloc);
         let places = Places {
             file: files.written,
+            beside: None,
             folder: None,
             read: ReadFiles::of(&files),
         };

@@ -69,6 +69,7 @@ impl ReadInputs {
             second: fault_in(&self.second),
             lines: fault_in(&self.lines),
             written,
+            is_beside: false,
             output: match output {
                 Some(kind) => Some(FileFault::System(kind)),
                 None => None,

@@ -80,6 +80,7 @@ impl<
         let read = ReadInputs::of(self.system, &files, self.alloc);
         let places = Places {
             file: None,
+            beside: None,
             folder: None,
             read: ReadFiles::of(&files),
         };

@@ -1,9 +1,10 @@
 //! Lines of the program, as their words are read. None names a configuration.
 
+use reductions::Without;
 use sim_inputs::{
-    Beside, ChartCommand, ChartEnd, CheckCommand, Command, ExplainCommand, HintsWanted, Line,
-    ListCommand, LitmusCommand, MigrateCommand, OutcomesCommand, PlainCommand, ProgramCommand,
-    QuestionText, RunCommand, ScheduleCommand, ScriptCommand, StepCommand,
+    Beside, ChartCommand, ChartEnd, CheckCommand, Columns, Command, ExplainCommand, HintsWanted,
+    Line, ListCommand, LitmusCommand, MigrateCommand, OutcomesCommand, PlainCommand,
+    ProgramCommand, QuestionText, RunCommand, ScheduleCommand, ScriptCommand, StepCommand,
 };
 
 macro_rules! line {
@@ -200,8 +201,13 @@ pub fn chart_line(svg: Option<&'static str>, kanata: Option<&'static str>) -> Li
         hart: None,
         names: false,
         width: 120,
+        columns: Columns::Events,
+        registers: false,
+        counters: false,
         svg,
         kanata,
+        title: None,
+        theme: None,
     },))
 }
 
@@ -228,6 +234,12 @@ pub const EXPLAIN_ORDER: Line<'static> = line!(Command::Explain(ExplainCommand {
     beside: Some(Beside::Order("order")),
 }));
 
+/// The reductions that a search leaves out where none is named.
+pub const NOTHING_LEFT_OUT: Without = Without {
+    conditional: false,
+    jumps: false,
+};
+
 /// The outcomes of an image, of so many states at the most.
 pub fn outcomes_line(states: u32) -> Line<'static> {
     program_line!(ProgramCommand::Outcomes(OutcomesCommand {
@@ -247,6 +259,8 @@ pub fn outcomes_line(states: u32) -> Line<'static> {
         theme: None,
         all: false,
         lines: None,
+        without: NOTHING_LEFT_OUT,
+        how: false,
     },))
 }
 

@@ -16,8 +16,8 @@ ghost use Rattle.prompts.specs.declared.session.Complaint.TheVariants.{Memory};
 use crate::command::{Command, read_command};
 use crate::simulation::{Asked, Simulation};
 use address_labels::Labels;
-use chart_rows::{View, rows_of};
 use chart_columns::ColumnTable;
+use chart_rows::{Row, View, rows_of};
 use charts::{TextChart, write_text};
 use events::{Event, History};
 use explained_asks::explain;
@@ -333,19 +333,30 @@ fn chart_of(core: &Core, alloc: Global) -> Result<Vec<u8>, AllocError>
 {
     let events = listed(core.history(), alloc)?;
     let rows = rows_of(events.as_slice(), alloc)?;
-    let view = View::new(0, u32::MAX, None, events.len());
-    let mut text = Vec::new(alloc);
+    let columns = ColumnTable::events();
+    chart_by(core, events.as_slice(), rows.as_slice(), &columns, alloc)
+}
+
+/// The chart of all events of a history with these rows.
+fn chart_by(
+    core: &Core,
+    events: &[Event],
+    rows: &[Row],
+    columns: &ColumnTable,
+    alloc: Global,
+) -> Result<Vec<u8>, AllocError> {
     let chart = TextChart {
-        rows: rows.as_slice(),
-        events: events.as_slice(),
-        columns: &ColumnTable::events(),
-        view,
+        rows,
+        events,
+        columns,
+        view: View::new(0, u32::MAX, None, events.len()),
         width: COLUMNS,
-        harts: 1,
+        harts: core.harts(),
         labels: Labels::none(),
         counters: &[],
         registers: &[],
     };
+    let mut text = Vec::new(alloc);
     match write_text(&chart, &mut text) {
         Ok(()) => Ok(text),
         Err(_) => Err(AllocError),

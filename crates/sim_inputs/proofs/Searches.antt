@@ -28,6 +28,7 @@ pub record AsksOutcomes (rows : List Row) (outcomes : OutcomesCommand) : Type 0 
   pub theme : theme_in (first_of (codes "theme") rows) ≡ Some outcomes.theme
   pub all : is_flag_set (codes "all") rows ≡ outcomes.all
   pub lines : first_of (codes "lines") rows ≡ option_map (λ f. f.now) outcomes.lines
+  pub how : is_flag_set (codes "how") rows ≡ outcomes.how
 
 asked_so : (rows : List Row) (outcomes : OutcomesCommand) → IsOutcomes rows outcomes → AsksOutcomes rows outcomes
 asked_so rows outcomes is = record {
@@ -44,6 +45,7 @@ asked_so rows outcomes is = record {
   theme = is.theme;
   all = is.all;
   lines = is.lines;
+  how = is.how;
 }
 
 -- a question is asked where one of its options is given, and has a condition where one of three is
@@ -131,7 +133,8 @@ searched_alike rows a b one two =
     let why : a.why ≡ b.why =
     why_is rows a.question a.why one.question ∙ sym (why_is rows b.question b.why two.question) in
     let picture : is_some a.svg ≡ is_some b.svg = some_alike a.svg b.svg (sym one.svg ∙ two.svg) in
-    rw (states, outcome, stuck, first, every, witness, script, story, drawn, theme, lines, asked, condition, why, picture)
+    let how : a.how ≡ b.how = sym one.how ∙ two.how in
+    rw (states, outcome, stuck, first, every, witness, script, story, drawn, theme, lines, asked, condition, why, picture, how)
     refl
 
 -- options that don't go together ask for no search

@@ -1,7 +1,7 @@
 -- The file that a line writes, by the name of its command and what was found for it.
-use Rattle.std.proofs.Common.{◌≡◌, not, Bool, true, false, List, Option, None, Some, is_some, Bor, if◌then◌else◌}
-use Rattle.std.proofs.Common.{option_map, codes, refl, sym, ap, ◌∙◌}
-use Rattle.std.specs.{Option.option_map_or, Str.bytes_eq}
+use Rattle.std.proofs.Common.{◌≡◌, Bool, true, false, List, Option, None, Some, is_some, Bor, if◌then◌else◌}
+use Rattle.std.proofs.Common.{◌&&◌, option_map, codes, refl, sym, ap, ap₂, ◌∙◌}
+use Rattle.std.specs.{Str.bytes_eq}
 use Rattle.clap.specs.Words.{Row, Text, first_of, subcommand_rows_of}
 use Rattle.clap.specs.Matches.{subcommand_name_of}
 use Rattle.clap.specs.declared.parser.matches.ArgMatches.{ArgMatches}
@@ -10,7 +10,7 @@ use Rattle.sim_inputs.specs.declared.line.Command.{Command as LineCommand}
 use Rattle.sim_inputs.specs.declared.line.Command.TheVariants as commands
 use Rattle.sim_inputs.specs.declared.line.ProgramCommand.TheVariants as program
 use Rattle.sim_inputs.specs.CommandLine.{IsCommandOf, Names}
-use Rattle.sim_inputs.specs.Files.{files_with, is_standard_input, writes_no_dash}
+use Rattle.sim_inputs.specs.Files.{files_with, is_undashed, writes_no_dash}
 use Rattle.sim_inputs.proofs.Subcommand.{is_line}
 
 abbrev pub text_of : Option (Bor Text) → Option Text
@@ -35,6 +35,12 @@ written_text name rows =
     then either (first_of (codes "image") rows) (either (first_of (codes "svg") rows) (order_text rows))
     else (if bytes_eq name (codes "migrate") then first_of (codes "OUT") rows
     else (if bytes_eq name (codes "plain") then first_of (codes "story-svg") rows else None))))))
+
+-- the second file that is written
+abbrev beside_text : Text → List Row → Option Text
+beside_text name rows =
+    if bytes_eq name (codes "chart")
+    then (if is_some (first_of (codes "svg") rows) then first_of (codes "kanata") rows else None) else None
 
 either_text : (a b : Option (Bor Text)) (first second : Option Text) → first ≡ text_of a → second ≡ text_of b
     → text_of (if is_some a then a else b) ≡ either first second
@@ -66,19 +72,32 @@ written_is name rows config (commands.Litmus litmus) is =
     rw is.0 (either_text litmus.image _ _ _ is.1.image (sym drawn))
 written_is name rows config (commands.Migrate migrate) is = rw is.0 (ap Some refl ∙ sym is.1.out)
 
-abbrev is_undashed : Option Text → Bool
-is_undashed file = option_map_or (λ name. not (is_standard_input name)) file true
+log_text : (svg kanata : Option (Bor Text)) (picture log : Option Text) → picture ≡ text_of svg → log ≡ text_of kanata
+    → text_of (if is_some svg then kanata else None) ≡ (if is_some picture then log else None)
+log_text None kanata picture log is_picture is_log = rw is_picture refl
+log_text (Some file) kanata picture log is_picture is_log = rw (is_picture, is_log) refl
 
-by_text : (file : Option (Bor Text))
-    → option_map_or (λ name. not (is_standard_input name.now)) file true ≡ is_undashed (text_of file)
-by_text None = refl
-by_text (Some file) = refl
+beside_is : (name : Text) (rows : List Row) (config : Option (Bor Text)) (command : LineCommand)
+    → IsCommandOf name rows command → text_of (files_with config command).beside ≡ beside_text name rows
+beside_is name rows config (commands.OfProgram (program.Step step)) is = rw is.0 refl
+beside_is name rows config (commands.OfProgram (program.Run run)) is = rw is.0 refl
+beside_is name rows config (commands.OfProgram (program.Check check)) is = rw is.0 refl
+beside_is name rows config (commands.OfProgram (program.Plain plain)) is = rw is.0 refl
+beside_is name rows config (commands.OfProgram (program.Schedule schedule)) is = rw is.0 refl
+beside_is name rows config (commands.OfProgram (program.Script script)) is = rw is.0 refl
+beside_is name rows config (commands.OfProgram (program.List list)) is = rw is.0 refl
+beside_is name rows config (commands.OfProgram (program.Chart chart)) is =
+    rw is.0 (log_text chart.svg chart.kanata _ _ is.1.svg is.1.kanata)
+beside_is name rows config (commands.OfProgram (program.Outcomes outcomes)) is = rw is.0 refl
+beside_is name rows config (commands.Explain explain) is = rw is.0 refl
+beside_is name rows config (commands.Litmus litmus) is = rw is.0 refl
+beside_is name rows config (commands.Migrate migrate) is = rw is.0 refl
 
 undashed_by_name : (name : Text) (rows : List Row) (line : Line) → IsCommandOf name rows line.command
-    → writes_no_dash line ≡ is_undashed (written_text name rows)
+    → writes_no_dash line ≡ (is_undashed (written_text name rows) && is_undashed (beside_text name rows))
 undashed_by_name name rows line is =
-    by_text (files_with line.config line.command).written
-    ∙ ap is_undashed (written_is name rows line.config line.command is)
+    ap₂ (λ (one other : Option Text). is_undashed one && is_undashed other)
+    (written_is name rows line.config line.command is) (beside_is name rows line.config line.command is)
 
 -- a subcommand whose file is named by a dash is no line
 pub no_dashed_line : (m : ArgMatches) (name : Text) (rows : List Row) (line : Line) → subcommand_name_of m ≡ Some name

@@ -35,12 +35,14 @@ use Rattle.sim_inputs.specs.declared.line.{QuestionText.QuestionText}
 use Rattle.sim_inputs.specs.declared.line.QuestionText.TheVariants as question
 use Rattle.sim_inputs.specs.declared.line.{ChartEnd.ChartEnd}
 use Rattle.sim_inputs.specs.declared.line.ChartEnd.TheVariants as ends
-use Rattle.sim_inputs.specs.ChartEnds.{do_ends_rise, IsEndOf}
+use Rattle.sim_inputs.specs.ChartEnds.{IsEndOf}
+use Rattle.sim_inputs.specs.ChartOptions.{can_be_drawn, columns_in}
 use Rattle.sim_inputs.specs.Rules.{smtsim}
 use Rattle.sim_inputs.specs.Files.{is_standard_input, reads_input_once, writes_no_dash}
 use Rattle.sim_inputs.specs.HintsWanted.{hints_in}
+use Rattle.sim_inputs.specs.LeftOut.{IsWithout}
 use Rattle.sim_inputs.specs.TestOrders.{order_asked}
-use Rattle.sim_inputs.specs.Themes.{can_be_themed, theme_in}
+use Rattle.sim_inputs.specs.Themes.{can_be_themed, shade_of, theme_in}
 use Rattle.sim_inputs.specs.SeveralTests.{are_several, is_made_alone, is_told_alone, names_input, tests_in}
 use Rattle.story_pictures.specs.declared.form.Theme.{Theme}
 
@@ -254,13 +256,6 @@ pub record IsList (rows : List Row) (list : ListCommand) : Type 0 where
   pub lines : IsFileOption rows (codes "lines") list.lines
   pub names : IsFlag rows (codes "names") list.names
 
--- The last event that is drawn isn't before the first, where both are numbers; a line has room, and there's one file at
--- most.
-abbrev pub can_be_drawn : ChartCommand → Bool
-can_be_drawn chart =
-    (do_ends_rise chart.from chart.to && nat_le 1 chart.width)
-    && not (is_some chart.svg && is_some chart.kanata)
-
 -- Where a chart begins or ends: at the default event, where the option isn't given, or where its word says.
 abbrev pub IsEndIn : Option Text → ℕ → ℕ → ChartEnd → Type 0
 IsEndIn None default greatest end = end ≡ ends.Event default
@@ -277,8 +272,13 @@ pub record IsChart (rows : List Row) (chart : ChartCommand) : Type 0 where
   pub hart : IsNumberOption rows (codes "hart") last_hart chart.hart
   pub names : IsFlag rows (codes "names") chart.names
   pub width : IsNumber rows (codes "width") usual_columns most_columns chart.width
+  pub columns : columns_in (first_of (codes "columns") rows) ≡ Some chart.columns
+  pub registers : IsFlag rows (codes "registers") chart.registers
+  pub counters : IsFlag rows (codes "counters") chart.counters
   pub svg : IsFileOption rows (codes "svg") chart.svg
   pub kanata : IsFileOption rows (codes "kanata") chart.kanata
+  pub title : IsFileOption rows (codes "title") chart.title
+  pub theme : shade_of (is_flag_set (codes "light") rows) (is_flag_set (codes "dark") rows) ≡ Some chart.theme
   pub together : can_be_drawn chart ≡ true
 
 -- What is explained beside an image: a script, an order, a trace, or nothing.
@@ -342,10 +342,12 @@ are_reasons_together outcomes =
     then not outcomes.first && not (is_some outcomes.outcome) && not outcomes.stuck && has_no_file outcomes
     else not (is_some outcomes.svg)
 
--- The search ends at the first answer where a condition is asked; and a picture of a story alone has colours.
+-- The search ends at the first answer where a condition is asked, and then it isn't told how it went; and a picture of a
+-- story alone has colours.
 abbrev pub can_be_searched : OutcomesCommand → Bool
 can_be_searched outcomes = nat_le 1 outcomes.states && are_orders_together outcomes
     && (not outcomes.first || has_condition outcomes.question)
+    && (not outcomes.how || not outcomes.first)
     && are_stories_together outcomes
     && are_reasons_together outcomes
     && can_be_themed (is_some outcomes.story_svg) (is_some outcomes.theme)
@@ -366,6 +368,8 @@ pub record IsOutcomes (rows : List Row) (outcomes : OutcomesCommand) : Type 0 wh
   pub theme : IsTheme rows outcomes.theme
   pub all : IsFlag rows (codes "all") outcomes.all
   pub lines : IsFileOption rows (codes "lines") outcomes.lines
+  pub without : IsWithout (first_of (codes "without") rows) outcomes.without
+  pub how : IsFlag rows (codes "how") outcomes.how
   pub together : can_be_searched outcomes ≡ true
 
 -- Of a litmus test one file at most is written: the image, the picture of why, or what is written of an order.

@@ -1,5 +1,5 @@
 -- The files that a line names. (This project's own choice.)
-use Rattle.std.specs.Prelude.{List, ℕ, ◌+◌, nat_le, Bool, true, false, Option, None, Some, is_some, option_map, not}
+use Rattle.std.specs.Prelude.{List, ℕ, ◌+◌, nat_le, Bool, true, false, Option, None, Some, is_some, option_map, not, ◌&&◌}
 use Rattle.std.specs.Prelude.{codes, if◌then◌else◌}
 use Rattle.std.specs.{Borrow.Bor, Option.option_map_or, Str.bytes_eq}
 use Rattle.sim_inputs.specs.{declared.files.Files.Files}
@@ -14,9 +14,12 @@ use Rattle.sim_inputs.specs.declared.line.Beside.TheVariants as beside
 use Rattle.sim_inputs.specs.declared.line.Command.TheVariants as commands
 use Rattle.sim_inputs.specs.declared.line.ProgramCommand.TheVariants as program
 
--- The file that a chart is written to: a picture, or Konata's log.
+-- The file that a chart is written to: a picture, or Konata's log; and that of the log beside a picture.
 abbrev pub written_chart : ChartCommand → Option (Bor (List ℕ))
 written_chart chart = if is_some chart.svg then chart.svg else chart.kanata
+
+abbrev pub written_beside_chart : ChartCommand → Option (Bor (List ℕ))
+written_beside_chart chart = if is_some chart.svg then chart.kanata else None
 
 -- The file that an order is written to, or its script, or its story, or a picture of that.
 abbrev pub written_order : OutcomesCommand → Option (Bor (List ℕ))
@@ -103,6 +106,11 @@ written_by (program.List list) = None
 written_by (program.Chart chart) = written_chart chart
 written_by (program.Outcomes outcomes) = written_of_outcomes outcomes
 
+-- The second file that it writes, where it writes two.
+abbrev pub written_beside : ProgramCommand → Option (Bor (List ℕ))
+written_beside (program.Chart chart) = written_beside_chart chart
+written_beside _ = None
+
 -- The files of a command, beside the configuration of its line.
 abbrev pub program_files : Option (Bor (List ℕ)) → ProgramCommand → Files
 program_files config command = record {
@@ -111,6 +119,7 @@ program_files config command = record {
   second = second_of command;
   lines = lines_of command;
   written = written_by command;
+  beside = written_beside command;
 }
 
 abbrev pub files_with : Option (Bor (List ℕ)) → Command → Files
@@ -121,6 +130,7 @@ files_with config (commands.Explain explain) = record {
   second = explained_beside explain;
   lines = None;
   written = None;
+  beside = None;
 }
 files_with config (commands.Litmus litmus) = record {
   config = config;
@@ -128,6 +138,7 @@ files_with config (commands.Litmus litmus) = record {
   second = litmus.expect;
   lines = None;
   written = written_for_test litmus;
+  beside = None;
 }
 files_with config (commands.Migrate migrate) = record {
   config = config;
@@ -135,11 +146,13 @@ files_with config (commands.Migrate migrate) = record {
   second = Some migrate.trace;
   lines = None;
   written = Some migrate.out;
+  beside = None;
 }
 
 -- The configuration, the image or the litmus test, the file that is read beside them (the script, the
 -- trace that is read, or the order), the source lines, and the file that is written: the trace of a core or of a
--- migration, a chart, an order, its script or its story, a picture of that, one of why, or what is made of a test.
+-- migration, a chart, an order, its script or its story, a picture of that, one of why, or what is made of a test; and a
+-- chart's log beside its picture.
 abbrev pub files_of : Line → Files
 files_of line = files_with line.config line.command
 
@@ -193,6 +206,12 @@ reads_input_once line = let files = files_of line in
     nat_le (input_count_of files.config + input_count_of files.program + input_count_of files.second
     + input_count_of files.lines) 1
 
--- No dash stands in place of the file that is written.
+-- No dash stands in place of a file that is written.
+abbrev pub is_undashed : Option (List ℕ) → Bool
+is_undashed file = option_map_or (λ name. not (is_standard_input name)) file true
+
+abbrev is_undashed_file : Option (Bor (List ℕ)) → Bool
+is_undashed_file file = is_undashed (option_map (λ name. name.now) file)
+
 abbrev pub writes_no_dash : Line → Bool
-writes_no_dash line = option_map_or (λ name. not (is_standard_input name.now)) (files_of line).written true
+writes_no_dash line = let files = files_of line in is_undashed_file files.written && is_undashed_file files.beside

@@ -1,9 +1,11 @@
 pub mod ChartEnds
+pub mod ChartOptions
 pub mod CommandLine
 pub mod Configuration
 pub mod Explained
 pub mod Files
 pub mod HintsWanted
+pub mod LeftOut
 pub mod Rules
 pub mod SeveralTests
 pub mod Table

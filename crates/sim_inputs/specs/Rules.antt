@@ -124,6 +124,30 @@ svg_rule = file_option_rule (codes "svg")
 abbrev pub kanata_rule : Rule
 kanata_rule = file_option_rule (codes "kanata")
 
+abbrev pub columns_rule : Rule
+columns_rule = text_option_rule (codes "columns")
+
+abbrev pub registers_rule : Rule
+registers_rule = flag_rule (codes "registers")
+
+abbrev pub counters_rule : Rule
+counters_rule = flag_rule (codes "counters")
+
+abbrev pub title_rule : Rule
+title_rule = text_option_rule (codes "title")
+
+abbrev pub light_rule : Rule
+light_rule = flag_rule (codes "light")
+
+abbrev pub dark_rule : Rule
+dark_rule = flag_rule (codes "dark")
+
+abbrev pub without_rule : Rule
+without_rule = text_option_rule (codes "without")
+
+abbrev pub how_rule : Rule
+how_rule = flag_rule (codes "how")
+
 abbrev pub states_rule : Rule
 states_rule = number_option_rule (codes "states")
 
@@ -239,10 +263,12 @@ abbrev pub list_command : App
 list_command = subcommand (codes "list") (image_rule ∷ config_rule ∷ lines_rule ∷ names_rule ∷ [])
 
 -- `chart IMAGE TRACE`, with `--config FILE`, `--harts N`, `--from PLACE`, `--to PLACE`, `--hart N`, `--names`,
--- `--width N`, `--svg FILE` and `--kanata FILE`.
+-- `--width N`, `--columns OF`, `--registers`, `--counters`, `--svg FILE`, `--kanata FILE`, `--title TEXT`,
+-- `--light` and `--dark`.
 abbrev pub chart_command : App
 chart_command = subcommand (codes "chart") (image_rule ∷ trace_rule ∷ config_rule ∷ harts_rule ∷ from_rule ∷ to_rule
-    ∷ hart_rule ∷ names_rule ∷ width_rule ∷ svg_rule ∷ kanata_rule ∷ [])
+    ∷ hart_rule ∷ names_rule ∷ width_rule ∷ columns_rule ∷ registers_rule ∷ counters_rule ∷ svg_rule ∷ kanata_rule
+    ∷ title_rule ∷ light_rule ∷ dark_rule ∷ [])
 
 -- `explain IMAGE`, with `--config FILE`, `--harts N`, `--script FILE`, `--order FILE` and `--trace FILE`, each of which
 -- is read.
@@ -252,13 +278,13 @@ explain_command = subcommand (codes "explain") (image_rule ∷ config_rule ∷ h
 
 -- `outcomes IMAGE`, with `--config FILE`, `--harts N`, `--states N`, `--watch LIST`, `--exists CONDITION`,
 -- `--forall CONDITION`, `--never CONDITION`, `--never-stuck`, `--why CONDITION`, `--svg FILE`, `--first`, `--outcome N`,
--- `--stuck`, `--witness FILE`, `--script FILE`, `--story FILE`, `--story-svg FILE`, `--theme THEME`, `--all` and
--- `--lines FILE`.
+-- `--stuck`, `--witness FILE`, `--script FILE`, `--story FILE`, `--story-svg FILE`, `--theme THEME`, `--all`,
+-- `--lines FILE`, `--without LIST` and `--how`.
 abbrev pub outcomes_command : App
 outcomes_command = subcommand (codes "outcomes") (image_rule ∷ config_rule ∷ harts_rule ∷ states_rule ∷ watch_rule
     ∷ exists_rule ∷ forall_rule ∷ never_rule ∷ never_stuck_rule ∷ why_none_rule ∷ svg_rule ∷ first_rule ∷ outcome_rule
     ∷ stuck_rule ∷ witness_rule ∷ written_script_rule ∷ written_story_rule ∷ story_svg_rule ∷ theme_rule ∷ all_rule
-    ∷ lines_rule ∷ [])
+    ∷ lines_rule ∷ without_rule ∷ how_rule ∷ [])
 
 -- `litmus TEST..`, with `--config FILE`, `--states N`, `--image FILE`, `--why`, `--svg FILE`, `--outcome N`,
 -- `--witness FILE`, `--script FILE`, `--story FILE`, `--story-svg FILE`, `--theme THEME`, `--all`, `--run N`, `--summary`

@@ -21,6 +21,8 @@ rule_by kind.List name = text_option_rule name
 rule_by kind.Condition name = text_option_rule name
 rule_by kind.When name = text_option_rule name
 rule_by kind.Theme name = text_option_rule name
+rule_by kind.Columns name = text_option_rule name
+rule_by kind.Text name = text_option_rule name
 
 abbrev pub rule_in : Argument → Rule
 rule_in row = rule_by row.kind row.name.now

@@ -21,4 +21,9 @@ order_asked litmus = record {
   theme = litmus.theme;
   all = litmus.all;
   lines = None;
+  without = record {
+    conditional = false;
+    jumps = false;
+  };
+  how = false;
 }

@@ -26,6 +26,10 @@ pub(crate) enum Kind {
     When,
     /// `--name THEME`, which may be there.
     Theme,
+    /// `--name OF`, which may be there.
+    Columns,
+    /// `--name TEXT`, which may be there.
+    Text,
 }
 
 /// An argument of a subcommand, as help describes it.
@@ -244,6 +248,54 @@ pub(crate) const KANATA: Argument = Argument {
     kind: Kind::Option,
     name: "kanata",
     help: "The file for a log that Konata reads, in place of text",
+};
+
+pub(crate) const COLUMNS: Argument = Argument {
+    kind: Kind::Columns,
+    name: "columns",
+    help: "What a column is: events or rounds",
+};
+
+pub(crate) const REGISTERS: Argument = Argument {
+    kind: Kind::Flag,
+    name: "registers",
+    help: "Show the registers of each instruction",
+};
+
+pub(crate) const COUNTERS: Argument = Argument {
+    kind: Kind::Flag,
+    name: "counters",
+    help: "Show how full the core is, column by column",
+};
+
+pub(crate) const TITLE: Argument = Argument {
+    kind: Kind::Text,
+    name: "title",
+    help: "The picture's title, with --svg",
+};
+
+pub(crate) const LIGHT: Argument = Argument {
+    kind: Kind::Flag,
+    name: "light",
+    help: "Draw the picture for a light page, with --svg",
+};
+
+pub(crate) const DARK: Argument = Argument {
+    kind: Kind::Flag,
+    name: "dark",
+    help: "Draw the picture for a dark page, with --svg",
+};
+
+pub(crate) const WITHOUT: Argument = Argument {
+    kind: Kind::List,
+    name: "without",
+    help: "Leave reductions out of the search: RX, J",
+};
+
+pub(crate) const HOW: Argument = Argument {
+    kind: Kind::Flag,
+    name: "how",
+    help: "Tell how the search went, and what it saved",
 };
 
 pub(crate) const STATES: Argument = Argument {

@@ -6,13 +6,13 @@ ghost use Rattle.sim_inputs.specs.Rules.{image_commands, report_commands, smtsim
 ghost use Rattle.sim_inputs.specs.Table.{own_arguments_in, rule_in, subcommand_in, with_row};
 
 use crate::arguments::{
-    ALL, Argument, CONFIG, COUNTS, EXISTS, EXPECT, EXPLAINED_ORDER, EXPLAINED_SCRIPT,
-    EXPLAINED_TRACE, FIRST, FORALL, FROM, HART, HARTS, HARTS_BESIDE_TRACE, HINTS, IMAGE, JSON,
-    KANATA, KEEP, Kind, LINES, LOOKS, NAMES, NEVER, NEVER_STUCK, ORDER, ORDER_OR_ROUNDS, OUTCOME,
-    OUTCOME_OF_TEST, RECORDS, ROUNDS, RUN_TEST, SCRIPT, SEED, SHOW, STATES, STEPS, STORY,
-    STORY_SVG, STUCK, SUMMARY, SVG, SVG_OF_WHY, TEST, THEME, TIMES, TO, TRACE, WATCH, WHY,
-    WHY_ENDS, WHY_NEVER, WHY_NONE, WHY_REFUSED, WIDTH, WITNESS, WRITTEN_IMAGE, WRITTEN_OUT,
-    WRITTEN_SCRIPT, WRITTEN_STORY, WRITTEN_TRACE,
+    ALL, Argument, COLUMNS, CONFIG, COUNTERS, COUNTS, DARK, EXISTS, EXPECT, EXPLAINED_ORDER,
+    EXPLAINED_SCRIPT, EXPLAINED_TRACE, FIRST, FORALL, FROM, HART, HARTS, HARTS_BESIDE_TRACE, HINTS,
+    HOW, IMAGE, JSON, KANATA, KEEP, Kind, LIGHT, LINES, LOOKS, NAMES, NEVER, NEVER_STUCK, ORDER,
+    ORDER_OR_ROUNDS, OUTCOME, OUTCOME_OF_TEST, RECORDS, REGISTERS, ROUNDS, RUN_TEST, SCRIPT, SEED,
+    SHOW, STATES, STEPS, STORY, STORY_SVG, STUCK, SUMMARY, SVG, SVG_OF_WHY, TEST, THEME, TIMES,
+    TITLE, TO, TRACE, WATCH, WHY, WHY_ENDS, WHY_NEVER, WHY_NONE, WHY_REFUSED, WIDTH, WITHOUT,
+    WITNESS, WRITTEN_IMAGE, WRITTEN_OUT, WRITTEN_SCRIPT, WRITTEN_STORY, WRITTEN_TRACE,
 };
 use crate::forms::{
     CHART_FORM, CONFIGURATION_FORM, LITMUS_FORM, MIGRATE_FORM, ORDER_FORM, OUTCOMES_FORM,
@@ -153,8 +153,14 @@ static OF_IMAGES: [Subcommand; 6] = [
             HART,
             NAMES,
             WIDTH,
+            COLUMNS,
+            REGISTERS,
+            COUNTERS,
             SVG,
             KANATA,
+            TITLE,
+            LIGHT,
+            DARK,
         ],
         form: CHART_FORM,
     },
@@ -196,6 +202,8 @@ static OF_IMAGES: [Subcommand; 6] = [
             THEME,
             ALL,
             LINES,
+            WITHOUT,
+            HOW,
         ],
         form: OUTCOMES_FORM,
     },
@@ -326,5 +334,7 @@ fn argument_of<'a>(row: &'static Argument, alloc: Global) -> Arg<'a>
         Kind::Condition => argument.long(row.name).value_name("CONDITION"),
         Kind::When => argument.long(row.name).value_name("WHEN"),
         Kind::Theme => argument.long(row.name).value_name("THEME"),
+        Kind::Columns => argument.long(row.name).value_name("OF"),
+        Kind::Text => argument.long(row.name).value_name("TEXT"),
     }
 }

@@ -1,15 +1,17 @@
 ghost use Rattle.std.specs.Prelude.{◌≡◌, ◌≤◌, option_map};
 ghost use Rattle.sim_inputs.specs.Files.{files_of, lines_of, program_files, shows_names};
-ghost use Rattle.sim_inputs.specs.Files.{written_chart, written_of_outcomes, written_order, written_for_test};
+ghost use Rattle.sim_inputs.specs.Files.{written_chart, written_beside_chart, written_of_outcomes, written_order};
+ghost use Rattle.sim_inputs.specs.Files.{written_beside, written_for_test};
 ghost use Rattle.sim_inputs.specs.Files.{explained_beside, reads_words, reads_trace, is_trace};
-ghost use Rattle.sim_inputs.specs.Files.{is_standard_input, input_count, reads_input_once, writes_no_dash};
+ghost use Rattle.sim_inputs.specs.Files.{is_standard_input, is_undashed, input_count, reads_input_once};
+ghost use Rattle.sim_inputs.specs.Files.{writes_no_dash};
 
 use crate::line::{
     Beside, ChartCommand, Command, ExplainCommand, Line, LitmusCommand, OutcomesCommand,
     ProgramCommand,
 };
 
-/// The files that a line names: four that are read, in this order, and one that is written.
+/// The files that a line names: four that are read, in this order, and one or two that are written.
 #[derive(Clone, Copy, Drop)]
 pub struct Files<'a> {
     /// The configuration.
@@ -23,10 +25,12 @@ pub struct Files<'a> {
     /// The file that is written: the trace of a core or of a migration, a chart, an order, its script or its story, a
     /// picture of that, one of why, or what is made of a litmus test.
     pub written: Option<&'a str>,
+    /// A second one that is written, where there is one: a chart's log beside its picture.
+    pub beside: Option<&'a str>,
 }
 
 impl<'a> ChartCommand<'a> {
-    /// The file that the chart is written to; none where it is printed.
+    /// The file that the chart is written to, of two the picture; none where it is printed.
     pub fn written(&self) -> Option<&'a str>
         ensures { result ≡ written_chart self.now }
     {
@@ -34,6 +38,16 @@ impl<'a> ChartCommand<'a> {
             return self.svg;
         }
         self.kanata
+    }
+
+    /// The file of its log, where a picture is written too.
+    pub fn written_beside(&self) -> Option<&'a str>
+        ensures { result ≡ written_beside_chart self.now }
+    {
+        if self.svg.is_some() {
+            return self.kanata;
+        }
+        None
     }
 }
 
@@ -118,6 +132,17 @@ impl<'a> ProgramCommand<'a> {
             second,
             lines: self.lines(),
             written,
+            beside: self.written_beside(),
+        }
+    }
+
+    /// The second file that the command writes; none where it writes one at most.
+    fn written_beside(&self) -> Option<&'a str>
+        ensures { result ≡ written_beside self.now }
+    {
+        match self {
+            ProgramCommand::Chart(chart) => chart.written_beside(),
+            _ => None,
         }
     }
 
@@ -210,6 +235,7 @@ impl<'a> Line<'a> {
             second,
             lines: None,
             written,
+            beside: None,
         }
     }
 }
@@ -233,11 +259,19 @@ pub(crate) fn reads_input_once(line: &Line<'_>) -> bool
         <= 1
 }
 
-/// Whether no dash stands in place of the file that the line writes.
+/// Whether no dash stands in place of a file that the line writes.
 pub(crate) fn writes_no_dash(line: &Line<'_>) -> bool
     ensures { result ≡ writes_no_dash line.now }
 {
-    match line.files().written {
+    let files = line.files();
+    is_undashed(files.written) && is_undashed(files.beside)
+}
+
+/// Whether no dash stands in place of this file.
+fn is_undashed(file: Option<&str>) -> bool
+    ensures { result ≡ is_undashed (option_map (λ name. name.now) file.entry) }
+{
+    match file {
         Some(name) => !is_standard_input(name),
         None => true,
     }

@@ -66,10 +66,10 @@ A configuration is a TOML file. Its keys, with what holds where one is absent:
 
 /// How what is watched and a condition are written, for the help of `outcomes` and of `run`.
 pub(crate) const OUTCOMES_FORM: &str = "\
-LIST is what tells outcomes apart, beside how harts end and what they put out:
-registers at harts, names of the program and words of memory, apart by commas:
-a0@1,counter,next[3],node+8,lock.c:lock,80001000:4; behind a name :2 or :1 is
-a half or a byte of it.
+The LIST of --watch tells outcomes apart, beside how harts end and what they
+put out: registers at harts, names of the program and words of memory, with
+commas between: a0@1,counter,next[3],node+8,lock.c:lock,80001000:4; behind a
+name :2 or :1 is a half or a byte of it.
 CONDITION has terms joined by &, | and !, with parentheses: h0=1 & !(a0@1=2).
   h0=1           hart 0 has ended with 1
   h0=stopped 4   hart 0 has stopped with cause 4; h0=stopped: with any

@@ -4,12 +4,14 @@ ghost use Rattle.std.specs.Prelude.{◌≡◌};
 ghost use Rattle.clap.specs.Words.{found_of, rows_of};
 ghost use Rattle.sim_inputs.specs.CommandLine.{Finds, IsBeside, IsChart, IsCheck, IsExplain, IsList};
 ghost use Rattle.sim_inputs.specs.CommandLine.{IsLitmus, IsMigrate, IsOutcomes, IsPlain, IsRun, IsSchedule};
-ghost use Rattle.sim_inputs.specs.CommandLine.{IsScript, IsStep, can_be_drawn, can_be_plain, can_be_run};
+ghost use Rattle.sim_inputs.specs.CommandLine.{IsScript, IsStep, can_be_plain, can_be_run};
 ghost use Rattle.sim_inputs.specs.CommandLine.{can_be_told, has_named_folder, is_reported, shows_story};
 
-use crate::chart_ends::{chart_end, do_ends_rise};
+use crate::chart_ends::chart_end;
+use crate::chart_options::{can_be_drawn, columns_in};
 use crate::files::is_standard_input;
 use crate::found_values::{is_set, number, number_or, value_of};
+use crate::left_out::without_in;
 use crate::line::{
     Beside, ChartCommand, CheckCommand, ExplainCommand, ListCommand, LitmusCommand, MigrateCommand,
     OutcomesCommand, PlainCommand, RunCommand, ScheduleCommand, ScriptCommand, StepCommand,
@@ -18,7 +20,7 @@ use crate::outcome_options::can_be_searched;
 use crate::questions::{asked_in, question_in};
 use crate::several_tests::{are_several, names_input};
 use crate::test_orders::can_be_tested;
-use crate::themes::{can_be_themed, theme_in};
+use crate::themes::{can_be_themed, shade_in, theme_in};
 use clap::ArgMatches;
 use numbers::sizes::{MOST_EVENTS, MOST_HARTS};
 
@@ -258,23 +260,18 @@ pub(crate) fn chart_in<'a>(found: &ArgMatches<'a>) -> Option<ChartCommand<'a>>
         hart: number(found, "hart", LAST_HART)?,
         names: is_set(found, "names"),
         width: number_or(found, "width", USUAL_COLUMNS, MOST_COLUMNS)?,
+        columns: columns_in(found)?,
+        registers: is_set(found, "registers"),
+        counters: is_set(found, "counters"),
         svg: value_of(found, "svg"),
         kanata: value_of(found, "kanata"),
+        title: value_of(found, "title"),
+        theme: shade_in(found)?,
     };
     if !can_be_drawn(&chart) {
         return None;
     }
     Some(chart)
-}
-
-/// Whether the options of a chart go together: its events rise where both are numbers, a line has room,
-/// and there's one file at most.
-fn can_be_drawn(chart: &ChartCommand<'_>) -> bool
-    ensures { result ≡ can_be_drawn chart.now }
-{
-    do_ends_rise(chart.from, chart.to)
-        && chart.width >= 1
-        && !(chart.svg.is_some() && chart.kanata.is_some())
 }
 
 pub(crate) fn outcomes_in<'a>(found: &ArgMatches<'a>) -> Option<OutcomesCommand<'a>>
@@ -298,6 +295,8 @@ pub(crate) fn outcomes_in<'a>(found: &ArgMatches<'a>) -> Option<OutcomesCommand<
         theme: theme_in(found)?,
         all: is_set(found, "all"),
         lines: value_of(found, "lines"),
+        without: without_in(found)?,
+        how: is_set(found, "how"),
     };
     if !can_be_searched(&outcomes) {
         return None;

@@ -1,5 +1,6 @@
 use crate::hart_count::HartCount;
 use crate::hints_wanted::HintsWanted;
+use reductions::Without;
 use story_pictures::Theme;
 use thiserror::Error;
 
@@ -199,10 +200,29 @@ pub struct ChartCommand<'a> {
     /// `--width W`: how many characters a line has, or how many events a band of a picture, 1 to
     /// `MOST_COLUMNS`.
     pub width: u32,
+    /// `--columns OF`: what a column is.
+    pub columns: Columns,
+    /// `--registers`: the physical registers of each instruction stand behind it.
+    pub registers: bool,
+    /// `--counters`: how full the core is stands at each column.
+    pub counters: bool,
     /// `--svg FILE`: the file that a picture is written to.
     pub svg: Option<&'a str>,
-    /// `--kanata FILE`: the file that Konata's log is written to. There is one of the two at most.
+    /// `--kanata FILE`: the file that Konata's log is written to, another one than the picture's.
     pub kanata: Option<&'a str>,
+    /// `--title TEXT`: the title of the picture. There is none without one.
+    pub title: Option<&'a str>,
+    /// `--light` or `--dark`: the colours of the picture. There are none without one.
+    pub theme: Option<Theme>,
+}
+
+/// What a column of a chart is.
+#[derive(Clone, Copy, PartialEq, Eq, Drop)]
+pub enum Columns {
+    /// An event.
+    Events,
+    /// A round: events of which each is an actor's own.
+    Rounds,
 }
 
 /// Where what is drawn of a history begins or ends.
@@ -271,6 +291,10 @@ pub struct OutcomesCommand<'a> {
     /// `--lines FILE`: the file of source lines, which stand behind the rows of the story, or behind the accesses
     /// of why.
     pub lines: Option<&'a str>,
+    /// `--without LIST`: the reductions that the search does without.
+    pub without: Without,
+    /// `--how`: how the search went is told. There is none with `first`.
+    pub how: bool,
 }
 
 /// A question about all outcomes, or about the ends of so many runs, with its condition as it is spelled.

@@ -8,13 +8,15 @@ ghost use Rattle.sim_inputs.specs.CommandLine.{has_condition, has_no_file, has_o
 use crate::line::{OutcomesCommand, QuestionText};
 use crate::themes::can_be_themed;
 
-/// Whether some state is looked at, and the options of orders, of stories, of pictures and of why go together.
+/// Whether some state is looked at, and the options of orders, of stories, of pictures and of why go together; and how
+/// the search went is told of one that looks at all.
 pub(crate) fn can_be_searched(outcomes: &OutcomesCommand<'_>) -> bool
     ensures { result ≡ can_be_searched outcomes.now }
 {
     outcomes.states >= 1
         && are_orders_together(outcomes)
         && (!outcomes.first || has_condition(outcomes))
+        && (!outcomes.how || !outcomes.first)
         && are_stories_together(outcomes)
         && are_reasons_together(outcomes)
         && can_be_themed(outcomes.story_svg.is_some(), outcomes.theme.is_some())

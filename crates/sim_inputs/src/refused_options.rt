@@ -2,12 +2,14 @@
 //! go together, and a dash in place of a file where it is none.
 
 use crate::chart_ends::{do_ends_rise, read_end};
+use crate::chart_options::columns_named;
 use crate::hints_wanted::HintsWanted;
 use crate::refused_together::refused_together;
 use crate::themes::theme_named;
 use clap::ArgMatches;
 use hints::{Hint, Part};
 use numbers::sizes::{MOST_EVENTS, MOST_HARTS};
+use reductions::read_list;
 use std::alloc::{AllocError, Global};
 use text_fields::read_decimal;
 
@@ -68,17 +70,15 @@ pub(crate) fn add_refused_options(
     hint.add(Part::More, b"try '--help'.")
 }
 
-/// Adds what is refused first: the word of `--hints`, that of `--theme`, a number, options that don't go together, a dash.
+/// Adds what is refused first: a word that its option hasn't, an end of a chart, a number, options that don't go
+/// together, a dash.
 fn add_first_refused(
     command: &str,
     found: &ArgMatches<'_>,
     hint: &mut Hint,
     alloc: Global,
 ) -> Result<(), AllocError> {
-    if add_hints_word(found, hint, alloc)? {
-        return Ok(());
-    }
-    if add_theme(found, hint, alloc)? {
+    if add_odd_word(found, hint, alloc)? {
         return Ok(());
     }
     if add_end(found, hint, alloc)? {
@@ -97,34 +97,38 @@ fn add_first_refused(
     add_dash(found, hint, alloc)
 }
 
-/// Adds the word of `--hints` where it is none of them. Answers whether it is so.
-fn add_hints_word(
+/// The options that have one word of a few, or a list of such, in the order in which they are looked at.
+const OF_WORDS: [&str; 4] = ["hints", "theme", "columns", "without"];
+
+/// Adds the first option whose word is none of its own. Answers whether there is one.
+fn add_odd_word(
     found: &ArgMatches<'_>,
     hint: &mut Hint,
     alloc: Global,
 ) -> Result<bool, AllocError> {
-    let Some(word) = found.get_str("hints") else {
-        return Ok(false);
-    };
-    if HintsWanted::named(word).is_some() {
-        return Ok(false);
+    for name in OF_WORDS {
+        let Some(word) = found.get_str(name) else {
+            continue;
+        };
+        let Some(expected) = words_in_place(name, word) else {
+            continue;
+        };
+        add_word(name, word, hint, alloc)?;
+        hint.add(Part::Expected, expected.as_bytes())?;
+        return Ok(true);
     }
-    add_word("hints", word, hint, alloc)?;
-    hint.add(Part::Expected, b"auto, always, never or json")?;
-    Ok(true)
+    Ok(false)
 }
 
-/// Adds the word of `--theme` where it is none of them. Answers whether it is so.
-fn add_theme(found: &ArgMatches<'_>, hint: &mut Hint, alloc: Global) -> Result<bool, AllocError> {
-    let Some(word) = found.get_str("theme") else {
-        return Ok(false);
-    };
-    if theme_named(word).is_some() {
-        return Ok(false);
+/// What may stand in place of an option's word, where that is none of its own.
+fn words_in_place(name: &str, word: &str) -> Option<&'static str> {
+    match name {
+        "hints" if HintsWanted::named(word).is_none() => Some("auto, always, never or json"),
+        "theme" if theme_named(word).is_none() => Some("auto, light or dark"),
+        "columns" if columns_named(word).is_none() => Some("events or rounds"),
+        "without" if read_list(word).is_none() => Some("RX, J, or both: RX,J"),
+        _ => None,
     }
-    add_word("theme", word, hint, alloc)?;
-    hint.add(Part::Expected, b"auto, light or dark")?;
-    Ok(true)
 }
 
 /// The last event that a chart may begin or end at.

@@ -1,5 +1,6 @@
 //! Which options of a command don't go together, and what may stand in their place.
 
+use crate::refused_charts::refused_of_charts;
 use crate::several_tests::{are_several, names_input};
 use clap::ArgMatches;
 
@@ -10,12 +11,12 @@ pub(crate) struct RefusedOptions {
     pub expected: &'static str,
 }
 
-const fn refused(words: &'static str, expected: &'static str) -> Option<RefusedOptions> {
+pub(crate) const fn refused(words: &'static str, expected: &'static str) -> Option<RefusedOptions> {
     Some(RefusedOptions { words, expected })
 }
 
 /// What may stand in place of two options of which each excludes the other.
-const ONE_OF_THEM: &str = "one of them at most";
+pub(crate) const ONE_OF_THEM: &str = "one of them at most";
 
 /// What may stand beside an option by which something is made of one test.
 const ONE_TEST: &str = "one test beside it, and no list";
@@ -30,9 +31,7 @@ pub(crate) fn refused_together(command: &str, found: &ArgMatches<'_>) -> Option<
         "step" | "check" => refused_of_stories(found),
         "run" => refused_of_runs(found),
         "plain" => refused_of_plain(found),
-        "chart" if has(found, "svg") && has(found, "kanata") => {
-            refused("--svg --kanata", ONE_OF_THEM)
-        }
+        "chart" => refused_of_charts(found),
         "litmus" => refused_of_tests(found),
         "outcomes" => refused_of_outcomes(found),
         _ => None,
@@ -40,7 +39,7 @@ pub(crate) fn refused_together(command: &str, found: &ArgMatches<'_>) -> Option<
 }
 
 /// Whether an option was given, or a flag set.
-fn has(found: &ArgMatches<'_>, name: &str) -> bool {
+pub(crate) fn has(found: &ArgMatches<'_>, name: &str) -> bool {
     match found.get_str(name) {
         Some(value) => value != "false",
         None => false,
@@ -134,6 +133,9 @@ fn refused_of_outcomes(found: &ArgMatches<'_>) -> Option<RefusedOptions> {
     }
     if let Some(refused) = refused_of_questions(found) {
         return Some(refused);
+    }
+    if has(found, "how") && has(found, "first") {
+        return refused("--how --first", ONE_OF_THEM);
     }
     if let Some(refused) = refused_of_orders(found) {
         return Some(refused);

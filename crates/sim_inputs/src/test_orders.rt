@@ -7,6 +7,7 @@ ghost use Rattle.sim_inputs.specs.TestOrders.{order_asked};
 use crate::line::{LitmusCommand, OutcomesCommand};
 use crate::outcome_options::can_be_searched;
 use crate::several_tests::{is_made_alone, is_told_alone};
+use reductions::Without;
 
 impl<'a> LitmusCommand<'a> {
     /// What it asks of the order of a final state, as `outcomes` asks it of the order of an outcome.
@@ -30,6 +31,11 @@ impl<'a> LitmusCommand<'a> {
             theme: self.theme,
             all: self.all,
             lines: None,
+            without: Without {
+                conditional: false,
+                jumps: false,
+            },
+            how: false,
         }
     }
 }

@@ -1,6 +1,6 @@
 //! The files of a run that shows an end: its trace, the order in which its harts retired, and its story.
 
-ghost use Rattle.std.specs.Prelude.{◌≡◌, ℕ, Bool, true, false, OnOk, OnErr};
+ghost use Rattle.std.specs.Prelude.{◌≡◌, ◌++◌, ℕ, Bool, true, false, OnOk, OnErr};
 ghost use Rattle.std.specs.Io.KnownBytes.{Keeps};
 ghost use Rattle.stress_runs.specs.declared.keeping.Part.{Part as AnyPart};
 ghost use Rattle.event_text.specs.Sinking.{HasPut};
@@ -8,7 +8,7 @@ ghost use Rattle.stress_runs.specs.Kept.{IsKept, order_of, order_text};
 
 use crate::finishing::{put_file, put_trace_file};
 use crate::order::put_order;
-use event_text::{Broken, Over, Sink};
+use event_text::{Broken, Over, Sink, put_all};
 use smt_core::Core;
 use std::io::Write;
 
@@ -44,6 +44,17 @@ pub trait EndFiles: Sink {
         ensures finished { OnOk result (is_finished self.new ≡ true) }
         ensures works { OnOk result (Self.has_failed self.new ≡ Self.has_failed self.old) }
         ensures failed { OnErr result (Self.has_failed self.new ≡ true) };
+
+    /// Puts two texts into two files, each whole, and finishes both: the first into the one that the sink has
+    /// where none was begun, the second into the one beside it. Both are opened before anything is put. `Broken`
+    /// where one can't be made, or takes no more.
+    fn put_two(&mut self, first: &[u8], second: &[u8]) -> Result<(), Broken>
+        requires works { Self.has_failed self.old ≡ false }
+        requires finished { is_finished self.old ≡ true }
+        ensures put { OnOk result
+            (HasPut Self.written Self.has_failed self.old self.new (first.now ++ second.now)) }
+        ensures finished { OnOk result (is_finished self.new ≡ true) }
+        ensures failed { OnErr result (Self.has_failed self.new ≡ true) };
 }
 
 /// A writer takes all files, one behind the other.
@@ -58,6 +69,11 @@ impl<W: Write> EndFiles for Over<W> {
 
     fn finish(&mut self) -> Result<(), Broken> {
         Ok(())
+    }
+
+    fn put_two(&mut self, first: &[u8], second: &[u8]) -> Result<(), Broken> {
+        put_all(first, self)?;
+        put_all(second, self)
     }
 }
 

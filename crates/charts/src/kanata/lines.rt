@@ -2,6 +2,7 @@
 
 use crate::label::instruction_of;
 use address_labels::{Form, Labels, write_labels};
+use chart_columns::ColumnTable;
 use chart_rows::Row;
 use events::{Event, EventKind};
 use std::io;
@@ -10,8 +11,9 @@ use std::io::Write;
 /// Where the writing of a log is.
 #[derive(Clone, Copy, Drop)]
 pub(crate) struct Log<'a> {
-    /// The cycle that was told last: the place of an event.
+    /// The cycle that was told last: a column.
     cycle: u32,
+    columns: &'a ColumnTable,
     /// How many instructions have left, retired or squashed.
     left: u32,
     /// What is wanted beside pcs.
@@ -20,9 +22,10 @@ pub(crate) struct Log<'a> {
 
 impl<'a> Log<'a> {
     /// A log that begins at this cycle.
-    pub fn new(cycle: u32, labels: &'a Labels<'a>) -> Log<'a> {
+    pub fn new(cycle: u32, columns: &'a ColumnTable, labels: &'a Labels<'a>) -> Log<'a> {
         Log {
             cycle,
+            columns,
             left: 0,
             labels,
         }
@@ -33,12 +36,13 @@ impl<'a> Log<'a> {
         writeln!(out, "C=\t{}", self.cycle)
     }
 
-    /// Tells that so many cycles have passed.
+    /// Tells how many cycles have passed up to the event at a place.
     pub fn go_to<W: Write>(&mut self, place: u32, out: &mut W) -> io::Result<()> {
-        let passed = place.saturating_sub(self.cycle);
+        let column = self.columns.column(place);
+        let passed = column.saturating_sub(self.cycle);
         if passed > 0 {
             writeln!(out, "C\t{passed}")?;
-            self.cycle = place;
+            self.cycle = column;
         }
         Ok(())
     }

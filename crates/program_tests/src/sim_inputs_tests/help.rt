@@ -58,7 +58,8 @@ F actor hart number pc word predicted|T actor number value next address data out
         "Usage: smtsim outcomes [OPTIONS] <IMAGE>|--config <FILE>|--harts <N>|--states <N>|--watch <LIST>|\
 --exists <CONDITION>|--forall <CONDITION>|--never <CONDITION>|--never-stuck|\
 --why <CONDITION>|--svg <FILE>|--first|--outcome <N>|--stuck|\
---witness <FILE>|--script <FILE>|--story <FILE>|--story-svg <FILE>|--theme <THEME>|--all|--lines <FILE>|a0@1,counter,next[3],node+8|h0=1 & !(a0@1=2)",
+--witness <FILE>|--script <FILE>|--story <FILE>|--story-svg <FILE>|--theme <THEME>|--all|--lines <FILE>|\
+--without <LIST>|--how|a0@1,counter,next[3],node+8|h0=1 & !(a0@1=2)",
     ),
     (
         "smtsim litmus --help",
@@ -72,7 +73,8 @@ F actor hart number pc word predicted|T actor number value next address data out
     (
         "smtsim chart --help",
         "Usage: smtsim chart [OPTIONS] <IMAGE> <TRACE>|--config <FILE>|--harts <N>|--from <PLACE>|--to <PLACE>|\
---hart <N>|--names|--width <N>|--svg <FILE>|--kanata <FILE>",
+--hart <N>|--names|--width <N>|--columns <OF>|--registers|--counters|--svg <FILE>|--kanata <FILE>|\
+--title <TEXT>|--light|--dark",
     ),
     (
         "smtsim migrate --help",

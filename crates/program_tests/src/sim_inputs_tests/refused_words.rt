@@ -157,6 +157,13 @@ smtsim outcomes --stuck --story-svg p --all a
 smtsim outcomes --exists x=1 --story-svg - a
 smtsim outcomes --exists x=1 --story s --theme light a
 smtsim outcomes --exists x=1 --story-svg p --theme black a
+smtsim outcomes --without a
+smtsim outcomes --without RX,RX a
+smtsim outcomes --without RX, a
+smtsim outcomes --without rx a
+smtsim outcomes --how --exists x=1 --first a
+smtsim litmus --how a
+smtsim litmus --without J a
 smtsim litmus
 smtsim litmus a b --image i
 smtsim litmus @a --svg s
@@ -192,7 +199,16 @@ smtsim chart --to 5x a t
 smtsim chart --hart 16 a t
 smtsim chart --width 0 a t
 smtsim chart --width 10001 a t
-smtsim chart --svg p --kanata q a t";
+smtsim chart --svg p --kanata p a t
+smtsim chart --svg p --kanata - a t
+smtsim chart --columns cycles a t
+smtsim chart --columns a t
+smtsim chart --registers --registers a t
+smtsim chart --title t a t
+smtsim chart --kanata k --title t a t
+smtsim chart --light a t
+smtsim chart --kanata k --dark a t
+smtsim chart --svg p --light --dark a t";
 
 /// Whether words are refused, where there is memory for them.
 fn are_refused(text: &str, alloc: Global) -> Result<bool, AllocError> {
@@ -211,6 +227,6 @@ fn other_words_are_refused(rt: HostRuntime) {
         holds(&rt, text, are_refused(text, rt.alloc()) == Ok(true));
         rows = rows.wrapping_add(1);
     }
-    assert!(rt; rows == 187);
+    assert!(rt; rows == 203);
     assert!(rt; is_refusal(read_words(&[], rt.alloc())));
 }

@@ -3,6 +3,7 @@ use Rattle.outcomes.specs.Parts.{IsListing}
 use Rattle.outcomes.specs.Refusals.{AreWords}
 use Rattle.watched_outcomes.specs.Watching.{AreThere}
 use Rattle.outcomes.proofs.Programs.{of_same, so_of_same, unfound_of_same}
+use Rattle.outcomes.proofs.Searching.{if_searched_for}
 use Rattle.outcomes.proofs.finding.find_within.Goals as goal
 
 pub returns-clause-found : goal.returns-clause-found
@@ -19,3 +20,9 @@ pub returns-clause-present : goal.returns-clause-present
 returns-clause-present g c =
     so_of_same (λ image harts. OnOk c.search_all.result (AreThere harts c.args.watch.now × AreWords image c.args.watch.now))
     _ _ _ _ c.in-Ok.ensures.image c.in-Ok.ensures.harts c.search_all.ensures.present
+
+pub returns-clause-searched : goal.returns-clause-searched
+returns-clause-searched g c =
+    if_searched_for c.in-Ok.machine.program _ _ c.args.without c.args.targets.anywhere c.args.budget c.search_all.result
+    c.in-Ok.ensures.image c.in-Ok.ensures.harts c.in-Ok.ensures.without c.in-Ok.ensures.anywhere
+    c.search_all.ensures.searched

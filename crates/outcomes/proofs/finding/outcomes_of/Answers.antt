@@ -31,3 +31,20 @@ pub returns-clause-once : goal.returns-clause-once
 returns-clause-once g c =
     once_told (told_of c.into_rows.result c.args.seen.begun.ways c.harts-harts.result c.args.seen.explored.search.origins)
     c.args.seen.ends.listed.items (λ l. refl) c.requires.ends.once
+
+pub returns-clause-searched : goal.returns-clause-searched
+returns-clause-searched g c = record {
+  machine = c.args.machine;
+  sound = c.requires.sound;
+  image_is = refl;
+  harts_are = refl;
+  without_is = refl;
+  jumps = λ all. all;
+  distinct = c.harts-harts.ensures.distinct;
+  begun = c.args.seen.begun;
+  begins = c.requires.begun;
+  graph_of = c.args.seen.explored.search;
+  known = c.requires.known;
+  explored = c.requires.explored;
+  count = refl;
+}

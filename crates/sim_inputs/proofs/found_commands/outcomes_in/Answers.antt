@@ -26,5 +26,7 @@ returns-then-not-can_be_searched c =
       theme = c.in_ok-theme_in.field-0;
       all = c.is_set-3.result;
       lines = c.value_of-8.result;
+      without = c.in_ok-without_in.field-0;
+      how = c.is_set-4.result;
     } in
     no_search (rows_of (found_of c.args.found.now)) made (search rules) (search rules)

@@ -2,7 +2,7 @@ use Rattle.std.proofs.Common.{◌≡◌, ◌<◌, refl, sym, ap, subst, ◌∙�
 use Rattle.condensed_machine.specs.Machine.{Grows, IsSound, Machine, Program}
 use Rattle.condensed_machine.specs.MachineInside.{machine_of}
 use Rattle.condensed_machine.specs.Decoded.{no_shared}
-use Rattle.condensed_machine.specs.Learning.{kept_within, still_knows}
+use Rattle.condensed_machine.specs.Learning.{kept_within, learns_more, still_knows}
 use Rattle.condensed_machine.proofs.LosersInTurn.{HaveFollowed, follows_more, have_followed, none_has_followed}
 use Rattle.condensed_machine.proofs.LosersInTurn.{one_follows, passes_one}
 use Rattle.condensed_machine.proofs.machine.CondensedMachine.follow_losers.Goals as goal
@@ -21,6 +21,12 @@ pub moved_to-requires-clause-known : goal.moved_to-requires-clause-known
 moved_to-requires-clause-known c =
     still_knows c.loop-other.self c.rest_of.new.self c.loop-other.now c.rest_of.ensures.grows
     c.loop-other.invariant.knows
+
+pub returns-in_err-now-clause-grows : goal.returns-in_err-now-clause-grows
+returns-in_err-now-clause-grows c =
+    learns_more c.args.self.now c.rest_of.new.self c.moved_to.new.self
+    (learns_more c.args.self.now c.loop-other.self c.rest_of.new.self c.loop-other.invariant.grows
+    c.rest_of.ensures.grows) c.moved_to.ensures.grows
 
 pub loop-other-preserved : goal.loop-other-preserved
 loop-other-preserved c =

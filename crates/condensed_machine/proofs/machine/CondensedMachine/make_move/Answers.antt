@@ -183,7 +183,7 @@ returns-clause-is_move c =
     let e = c.execute-executed.result in
     let common = c.numbered_shared-before.result.now in
     let table = c.number_shared.new.shared.keys in
-    let keeps = keeps_reservation p.live c.come_to_rest-steps.new.state in
+    let keeps = keeps_reservation p c.come_to_rest-steps.new.state in
     let before = shared_at c.self.inside.shared_states.keys c.args.from.shared in
     let same : before ≡ common =
     ap (λ (m : Machine). shared_at m.shared_states c.args.from.shared) c.self.view_is
