@@ -213,7 +213,8 @@ class Picture:
             if not free <= x <= free + 3 * COLUMN or kind != "x":
                 self.wrong.append(f"{said} of {name.text} at {x}, behind {free}")
             free = x + WIDEST * len(said)
-            text += f" {said}"
+            # It begins right behind a column, in which there may be nothing.
+            text = f"{text:<{(x - self.left) // COLUMN if (x - self.left) % COLUMN == 4 else 0}} {said}"
         return name.text + text + look
 
     def rings(self, group):
