@@ -3,7 +3,7 @@ use Rattle.std.specs.Prelude.{◌≡◌, ◌⊎◌, ℕ, Bool, List, [], reverse
 use Rattle.std.specs.Prelude.{IfOk, OnOk}
 use Rattle.std.specs.Io.KnownBytes.{Appends}
 use Rattle.std.proofs.lemmas.Bool.{cases_Bool}
-use Rattle.chart_rows.specs.{declared.row.Row.Row, declared.view.View.View}
+use Rattle.charts.specs.Text.{chart_text}
 use Rattle.sim_inputs.specs.Files.{written_chart}
 use Rattle.std.proofs.Common.{subst, ap, ◌∙◌, inl, inr, Option}
 use Rattle.elf_image.specs.Image.{ProgramImage}
@@ -22,7 +22,7 @@ use Rattle.command_parts.specs.declared.refused.Refused.TheVariants as refused
 use Rattle.core_commands.specs.declared.chart_ends.Drawn.{Drawn}
 use Rattle.core_commands.specs.Check.{IsTraceOf, AreHistory, setup_by}
 use Rattle.core_commands.specs.Chart.{hart_fits, BetweenEnds, IsDrawnOf, OfDrawn, IsDrawingRefusal, IsChartRefusal}
-use Rattle.core_commands.specs.Chart.{ChartComesTo, IsPrinted, IsTextOf, chart_lines, printed_chart, view_in}
+use Rattle.core_commands.specs.Chart.{ChartComesTo, IsPrinted, IsTextOf, printed_chart}
 use Rattle.core_commands.specs.ChartEnds.{IsEndRefusal}
 use Rattle.core_commands.proofs.OfCheck.{following}
 
@@ -54,18 +54,16 @@ pub drawn_of : (settings : Settings) (image : ProgramImage) (trace : List ℕ) (
 drawn_of settings image trace chart names read drawn rows events hart same =
     record { rows = rows; events_are = events; hart = hart; names_are = same }
 
-printed_of : (chart : ChartCommand) (names : Table) (view : View) (rows : List Row) (text lent : List ℕ)
-    (old new : Option (List ℕ))
-    → (is_some (written_chart chart) ≡ false → text ≡ chart_lines chart names view rows) → lent ≡ text
-    → Appends old new (if is_some (written_chart chart) then [] else lent)
-    → Appends old new (printed_chart chart names view rows)
-printed_of chart names view rows text lent old new is same printed =
+printed_of : (chart : ChartCommand) (text drawn : List ℕ) (old new : Option (List ℕ))
+    → (is_some (written_chart chart) ≡ false → text ≡ drawn) → Appends old new (printed_chart chart text)
+    → Appends old new (printed_chart chart drawn)
+printed_of chart text drawn old new is printed =
     elim (cases_Bool (is_some (written_chart chart))) [
       | inl written ↦
-          rw written (subst (λ (b : Bool). Appends old new (if b then [] else lent)) written printed)
+          rw written (subst (λ (b : Bool). Appends old new (if b then [] else text)) written printed)
       | inr unwritten ↦
-          rw unwritten (subst (λ (t : List ℕ). Appends old new t) (same ∙ is unwritten)
-          (subst (λ (b : Bool). Appends old new (if b then [] else lent)) unwritten printed))
+          rw unwritten (subst (λ (t : List ℕ). Appends old new t) (is unwritten)
+          (subst (λ (b : Bool). Appends old new (if b then [] else text)) unwritten printed))
     ]
 
 -- A trace of a history of the core, and what is drawn of it.
@@ -73,21 +71,22 @@ module _ (settings : Settings) (image : ProgramImage) (trace : List ℕ) (chart 
     (read : TraceContent) (is_trace : IsTraceOf trace read)
     (history : AreHistory (setup_by settings image read.head) read.events) (drawn : Drawn)
     (is_drawn : IsDrawnOf (setup_by settings image read.head) read.events chart names drawn) where
-  of_drawn : (P : Drawn → Type 0) → P drawn → OfDrawn settings image trace chart names P
+  of_drawn : (P : Setup → Drawn → Type 0) → P (setup_by settings image read.head) drawn
+      → OfDrawn settings image trace chart names P
   of_drawn P holds = (read, is_trace, (history, (drawn, is_drawn, holds)))
 
   pub drawing_refusal : (reason : Refused) → IsDrawingRefusal chart drawn reason
       → IsChartRefusal settings image trace chart names reason
   drawing_refusal (refused.Picture last) is =
-      of_drawn (λ one. IsDrawingRefusal chart one (refused.Picture last)) is
+      of_drawn (λ setup one. IsDrawingRefusal chart one (refused.Picture last)) is
   drawing_refusal refused.Memory is = tt
   drawing_refusal (refused.NamesNothing option) is =
-      of_drawn (λ one. IsEndRefusal chart one (refused.NamesNothing option)) is
+      of_drawn (λ setup one. IsEndRefusal chart one (refused.NamesNothing option)) is
   drawing_refusal (refused.NamesSeveral option) is =
-      of_drawn (λ one. IsEndRefusal chart one (refused.NamesSeveral option)) is
+      of_drawn (λ setup one. IsEndRefusal chart one (refused.NamesSeveral option)) is
   drawing_refusal (refused.NeverFetched option) is =
-      of_drawn (λ one. IsEndRefusal chart one (refused.NeverFetched option)) is
-  drawing_refusal (refused.Turned from to) is = of_drawn (λ one. IsEndRefusal chart one (refused.Turned from to)) is
+      of_drawn (λ setup one. IsEndRefusal chart one (refused.NeverFetched option)) is
+  drawing_refusal (refused.Turned from to) is = of_drawn (λ setup one. IsEndRefusal chart one (refused.Turned from to)) is
   drawing_refusal (refused.Image number) is = absurd (neither is)
   drawing_refusal refused.Config is = absurd (neither is)
   drawing_refusal refused.Harts is = absurd (neither is)
@@ -117,23 +116,26 @@ module _ (settings : Settings) (image : ProgramImage) (trace : List ℕ) (chart 
   drawing_refusal refused.File is = absurd (neither is)
   drawing_refusal refused.Output is = absurd (neither is)
 
-  pub comes_to : (answer : Result ℕ Refused) (text lent : List ℕ) (old new : Option (List ℕ))
+  pub comes_to : (answer : Result ℕ Refused) (text : List ℕ) (old new : Option (List ℕ))
       → hart_fits (setup_by settings image read.head).harts chart.hart ≡ true
-      → BetweenEnds chart drawn (IsTextOf chart drawn text) → lent ≡ text
-      → OnOk answer (Appends old new (if is_some (written_chart chart) then [] else lent))
+      → BetweenEnds chart drawn (IsTextOf chart (setup_by settings image read.head) drawn text)
+      → OnOk answer (Appends old new (printed_chart chart text))
       → IfOk answer (λ status. status ≡ 0)
       → IfOk answer (ChartComesTo settings image trace chart names old new)
-  comes_to (Err why) text lent old new fits is same printed zero = tt
-  comes_to (Ok status) text lent old new fits (from, to, ends, is) same printed zero = record {
+  comes_to (Err why) text old new fits is printed zero = tt
+  comes_to (Ok status) text old new fits (from, to, ends, sheet, is_sheet, is) printed zero = record {
     history = (read, is_trace, (history, fits));
-    drawn = of_drawn (λ one. BetweenEnds chart one (IsPrinted chart one old new)) (
+    drawn = of_drawn (λ setup one. BetweenEnds chart one (IsPrinted chart setup one old new)) (
       from,
       to,
       ends,
+      sheet,
+      is_sheet,
       record {
         fits = is.fits;
-        printed = printed_of chart (table_of drawn.names.now) (view_in drawn from to) drawn.rows.now text lent old new
-            is.is same printed;
+        drawing = is.drawing;
+        is_drawing = is.is_drawing;
+        printed = printed_of chart text (chart_text is.drawing) old new is.is printed;
       },
     );
     zero = zero;

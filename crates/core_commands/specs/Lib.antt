@@ -15,3 +15,4 @@ pub mod ChartEnds
 pub mod Migrate
 pub mod Told
 pub mod Judgement
+pub mod Drawing

@@ -8,6 +8,8 @@ ghost use Rattle.chart_rows.specs.Order.{AreByFetch};
 ghost use Rattle.std.specs.Io.KnownBytes.{Appends};
 ghost use Rattle.command_parts.specs.declared.refused.Refused.TheVariants.{Output};
 ghost use Rattle.core_commands.specs.Check.{IsHistoryRefusal, AreHistory, setup_by};
+ghost use Rattle.event_text.specs.Sinking.{HasPut};
+ghost use Rattle.core_commands.specs.Drawing.{texts_with};
 ghost use Rattle.core_commands.specs.Chart.{IsChartRefusal, IsHartRefusal, ChartComesTo, hart_fits};
 ghost use Rattle.symbols.specs.Tables.{table_of};
 
@@ -142,6 +144,8 @@ fn put_chart<S: EndFiles, W: Write>(
 fn put_files<S: EndFiles>(made: &Made, files: &mut S) -> Result<u8, Refused>
     requires works { S.has_failed files.old ≡ false }
     requires finished { S.is_finished files.old ≡ true }
+    ensures put { OnOk result (HasPut S.written S.has_failed files.old files.new
+        (texts_with made.now.text.items made.now.beside)) }
     ensures refused { IfErr result (λ reason. reason ≡ Output) }
     ensures zero { IfOk result (λ status. status ≡ 0) }
     ensures unbroken { OnOk result (S.has_failed files.new ≡ false) }

@@ -1,10 +1,18 @@
 //! What stands in which column of a chart.
 
+ghost use Rattle.std.specs.Prelude.{◌≡◌, ◌≤◌, IfOk, IfErr, length};
+ghost use Rattle.numbers.specs.Sizes.{most_events};
+ghost use Rattle.chart_rows.specs.Order.{AreByFetch};
+ghost use Rattle.chart_columns.specs.Tables.{placed_view};
+ghost use Rattle.command_parts.specs.declared.refused.Refused.TheVariants.{Memory};
+ghost use Rattle.core_commands.specs.Chart.{AreColumnsAs, IsSheetOf, rows_as};
+ghost use Rattle.core_commands.specs.Drawing.{placed_or, sheet_of};
+
 use crate::chart_ends::Drawn;
 use chart_columns::ColumnTable;
 use chart_rows::{Row, View};
 use command_parts::Refused;
-use sim_inputs::Columns;
+use sim_inputs::{ChartCommand, Columns};
 use std::alloc::{AllocError, Global};
 
 /// The columns of a chart, and what stands in them.
@@ -18,14 +26,21 @@ pub(crate) struct Columned {
 }
 
 /// What stands in which column, of a history of which the view shows some events.
-pub(crate) fn columned(
-    wanted: Columns,
+pub(crate) fn by_columns(
+    chart: &ChartCommand<'_>,
     drawn: &Drawn<'_>,
     view: &View,
     alloc: Global,
-) -> Result<Columned, Refused> {
-    let columns = columns_of(wanted, drawn, alloc)?;
-    let placed = match placed_rows(wanted, drawn.rows, &columns, alloc) {
+) -> Result<Columned, Refused>
+    requires few { length drawn.now.events.now ≤ most_events }
+    requires by_fetch { AreByFetch drawn.now.rows.now }
+    ensures sheet { IfOk result
+        (λ columned. IsSheetOf chart.now drawn.now view.now (sheet_of drawn.now columned)) }
+    ensures by_fetch { IfOk result (λ columned. AreByFetch (sheet_of drawn.now columned).rows) }
+    ensures refused { IfErr result (λ refused. refused ≡ Memory) }
+{
+    let columns = columns_of(chart.columns, drawn, alloc)?;
+    let placed = match placed_rows(chart.columns, drawn.rows, &columns, alloc) {
         Ok(placed) => placed,
         Err(refused) => return Err(refused),
     };
@@ -38,7 +53,11 @@ pub(crate) fn columned(
 }
 
 /// The columns that are wanted.
-fn columns_of(wanted: Columns, drawn: &Drawn<'_>, alloc: Global) -> Result<ColumnTable, Refused> {
+fn columns_of(wanted: Columns, drawn: &Drawn<'_>, alloc: Global) -> Result<ColumnTable, Refused>
+    requires few { length drawn.now.events.now ≤ most_events }
+    ensures columns { IfOk result (AreColumnsAs wanted drawn.now) }
+    ensures refused { IfErr result (λ refused. refused ≡ Memory) }
+{
     match wanted {
         Columns::Events => Ok(ColumnTable::events()),
         Columns::Rounds => match ColumnTable::rounds(drawn.rows, drawn.events, alloc) {
@@ -54,7 +73,11 @@ fn placed_rows(
     rows: &[Row],
     columns: &ColumnTable,
     alloc: Global,
-) -> Result<Option<Vec<Row>>, Refused> {
+) -> Result<Option<Vec<Row>>, Refused>
+    ensures rows { IfOk result (λ placed. placed_or rows.now placed ≡ rows_as wanted columns.now rows.now) }
+    ensures by_fetch { AreByFetch rows.now → IfOk result (λ placed. AreByFetch (placed_or rows.now placed)) }
+    ensures refused { IfErr result (λ refused. refused ≡ Memory) }
+{
     match wanted {
         Columns::Events => Ok(None),
         Columns::Rounds => match columns.place_all(rows, alloc) {
@@ -66,7 +89,9 @@ fn placed_rows(
 
 impl Columned {
     /// The rows of the history, with columns where the places of events were.
-    pub(crate) fn rows<'a>(&'a self, drawn: &Drawn<'a>) -> &'a [Row] {
+    pub(crate) fn rows<'a>(&'a self, drawn: &Drawn<'a>) -> &'a [Row]
+        ensures { result.now ≡ placed_or drawn.now.rows.now self.now.placed }
+    {
         match &self.placed {
             Some(placed) => placed.as_slice(),
             None => drawn.rows,

@@ -1,15 +1,20 @@
 //! A chart as it is drawn: what stands in which column, and the text, the picture and the log that are made of it.
 
-ghost use Rattle.std.specs.Prelude.{◌≡◌, ◌≤◌, None, IfOk, IfErr, length};
+ghost use Rattle.std.specs.Prelude.{◌≡◌, ◌≤◌, None, false, is_some, IfOk, IfErr, IfSome, IfNone, length};
 ghost use Rattle.numbers.specs.Sizes.{most_events};
 ghost use Rattle.chart_rows.specs.Order.{AreByFetch};
-ghost use Rattle.core_commands.specs.Chart.{BetweenEnds, IsDrawingRefusal, IsTextOf};
+ghost use Rattle.sim_inputs.specs.Files.{written_beside_chart, written_chart};
+ghost use Rattle.charts.specs.Text.{chart_text};
+ghost use Rattle.command_parts.specs.declared.refused.Refused.TheVariants.{Memory};
+ghost use Rattle.core_commands.specs.Check.{AreHistory};
+ghost use Rattle.core_commands.specs.Chart.{BetweenEnds, Fits, IsDrawingRefusal, IsTextOf, IsTooLarge};
+ghost use Rattle.core_commands.specs.Drawing.{drawing_with, setup_in, sheet_of};
 ghost use Rattle.symbols.specs.Tables.{table_of};
 ghost use Rattle.address_labels.specs.Labels.{marks_of, marks_where};
 
-use crate::chart_columned::{Columned, columned};
+use crate::chart_columned::{Columned, by_columns};
 use crate::chart_ends::{Drawn, ends_of};
-use crate::chart_told::{Told, Traced, told};
+use crate::chart_told::{Told, Traced, tell_beside};
 use address_labels::Labels;
 use chart_rows::View;
 use charts::{Chart, PictureForm, TextChart, last_pictured, write_kanata, write_svg, write_text};
@@ -36,21 +41,28 @@ pub(crate) fn made_of(
 ) -> Result<Made, Refused>
     requires few { length drawn.now.events.now ≤ most_events }
     requires by_fetch { AreByFetch drawn.now.rows.now }
-    ensures text { IfOk result (λ made. BetweenEnds chart.now drawn.now (IsTextOf chart.now drawn.now made.text.items)) }
+    requires events { drawn.now.events.now ≡ traced.now.trace.now.events }
+    requires history { AreHistory (setup_in traced.now) traced.now.trace.now.events }
+    ensures text { IfOk result (λ made. BetweenEnds chart.now drawn.now
+        (IsTextOf chart.now (setup_in traced.now) drawn.now made.text.items)) }
+    ensures beside { IfOk result (λ made. is_some made.beside ≡ is_some (written_beside_chart chart.now)) }
     ensures refused { IfErr result (IsDrawingRefusal chart.now drawn.now) }
 {
     let (from, to) = ends_of(chart, drawn)?;
     let view = View::new(from, to, drawn.hart, drawn.events.len());
-    let columned = columned(chart.columns, drawn, &view, alloc)?;
+    let columned = by_columns(chart, drawn, &view, alloc)?;
     if let Some(last) = too_large(drawn, &columned, chart) {
         return Err(Refused::Picture(last));
     }
-    let told = told(traced, &columned, chart, alloc)?;
+    let told = tell_beside(traced, &columned, chart, alloc)?;
     draw(drawn, &columned, &told, chart, alloc)
 }
 
 /// The last event to which a picture may be drawn, where one is wanted and would be too large.
-fn too_large(drawn: &Drawn<'_>, columned: &Columned, chart: &ChartCommand<'_>) -> Option<u32> {
+fn too_large(drawn: &Drawn<'_>, columned: &Columned, chart: &ChartCommand<'_>) -> Option<u32>
+    ensures some { IfSome result (IsTooLarge chart.now (sheet_of drawn.now columned.now)) }
+    ensures none { IfNone result (Fits chart.now (sheet_of drawn.now columned.now)) }
+{
     if chart.svg.is_none() {
         return None;
     }
@@ -67,7 +79,13 @@ fn draw(
     told: &Told,
     chart: &ChartCommand<'_>,
     alloc: Global,
-) -> Result<Made, Refused> {
+) -> Result<Made, Refused>
+    requires by_fetch { AreByFetch (sheet_of drawn.now columned.now).rows }
+    ensures text { IfOk result (λ made. is_some (written_chart chart.now) ≡ false
+        → made.text.items ≡ chart_text (drawing_with chart.now drawn.now columned.now told.now)) }
+    ensures beside { IfOk result (λ made. is_some made.beside ≡ is_some (written_beside_chart chart.now)) }
+    ensures refused { IfErr result (λ refused. refused ≡ Memory) }
+{
     let text = first_text(drawn, columned, told, chart, alloc)?;
     let beside = second_text(drawn, columned, chart, alloc)?;
     Ok(Made { text, beside })
@@ -80,7 +98,12 @@ fn first_text(
     told: &Told,
     chart: &ChartCommand<'_>,
     alloc: Global,
-) -> Result<Vec<u8>, Refused> {
+) -> Result<Vec<u8>, Refused>
+    requires by_fetch { AreByFetch (sheet_of drawn.now columned.now).rows }
+    ensures text { IfOk result (λ text. is_some (written_chart chart.now) ≡ false
+        → text.items ≡ chart_text (drawing_with chart.now drawn.now columned.now told.now)) }
+    ensures refused { IfErr result (λ refused. refused ≡ Memory) }
+{
     if chart.svg.is_some() {
         return picture_of(drawn, columned, told, chart, alloc);
     }
@@ -96,7 +119,10 @@ fn second_text(
     columned: &Columned,
     chart: &ChartCommand<'_>,
     alloc: Global,
-) -> Result<Option<Vec<u8>>, Refused> {
+) -> Result<Option<Vec<u8>>, Refused>
+    ensures beside { IfOk result (λ beside. is_some beside ≡ is_some (written_beside_chart chart.now)) }
+    ensures refused { IfErr result (λ refused. refused ≡ Memory) }
+{
     if chart.written_beside().is_none() {
         return Ok(None);
     }
@@ -113,7 +139,12 @@ fn text_of(
     told: &Told,
     chart: &ChartCommand<'_>,
     alloc: Global,
-) -> Result<Vec<u8>, Refused> {
+) -> Result<Vec<u8>, Refused>
+    requires by_fetch { AreByFetch (sheet_of drawn.now columned.now).rows }
+    ensures text { IfOk result
+        (λ text. text.items ≡ chart_text (drawing_with chart.now drawn.now columned.now told.now)) }
+    ensures refused { IfErr result (λ refused. refused ≡ Memory) }
+{
     let drawing = TextChart {
         rows: columned.rows(drawn),
         events: drawn.events,
@@ -139,7 +170,9 @@ fn picture_of(
     told: &Told,
     chart: &ChartCommand<'_>,
     alloc: Global,
-) -> Result<Vec<u8>, Refused> {
+) -> Result<Vec<u8>, Refused>
+    ensures refused { IfErr result (λ refused. refused ≡ Memory) }
+{
     let form = PictureForm {
         width: chart.width,
         harts: told.harts,
@@ -166,7 +199,9 @@ fn log_of(
     columned: &Columned,
     chart: &ChartCommand<'_>,
     alloc: Global,
-) -> Result<Vec<u8>, Refused> {
+) -> Result<Vec<u8>, Refused>
+    ensures refused { IfErr result (λ refused. refused ≡ Memory) }
+{
     let mut text = Vec::new(alloc);
     match write_kanata(&drawing_of(drawn, columned, chart), &mut text, alloc) {
         Ok(()) => Ok(text),

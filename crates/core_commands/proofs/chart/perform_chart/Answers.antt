@@ -32,8 +32,8 @@ returns-clause-ended g c =
     (drawn_of c.args.settings.now c.args.image.now c.args.trace.now c.args.chart.now (table_of c.args.names.now)
     c.in_ok-trace.trace drawn (rw c.as_slice.ensures.value c.in_ok-rows.ensures.rows) c.events.ensures
     c.in_ok-hart_in.ensures.same refl)
-    c.put_chart.result c.in-Ok.text.items c.as_slice-2.result.now (g.W.Write.contents c.args.context.now.out)
+    c.put_chart.result c.in-Ok.made.text.items (g.W.Write.contents c.args.context.now.out)
     (g.W.Write.contents c.put_chart.new.out)
     (fits_of c.args.settings.now c.args.image.now _ _ c.config_by-harts.result c.args.chart.now.hart
     c.config_by-harts.ensures c.head.ensures c.in_ok-hart_in.ensures.there)
-    c.in-Ok.ensures.text c.as_slice-2.ensures.value c.put_chart.ensures.printed c.put_chart.ensures.zero
+    c.in-Ok.ensures.text c.put_chart.ensures.printed c.put_chart.ensures.zero
