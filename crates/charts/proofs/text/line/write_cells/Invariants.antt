@@ -3,7 +3,7 @@ use Rattle.chart_rows.specs.{Cells.letter_at, Views.last_place}
 use Rattle.charts.specs.Text.{cells_text, places}
 use Rattle.chart_rows.specs.Bands.{last_column}
 use Rattle.charts.proofs.Lines.{IsLeft}
-use Rattle.charts.proofs.text.write_cells.Given as goal
+use Rattle.charts.proofs.text.line.write_cells.Given as goal
 
 -- the letters from this place on are left
 abbrev pub invariant-loop-place : goal.invariant-loop-place

@@ -2,7 +2,7 @@ use Rattle.std.proofs.Common.{◌≤◌, [], ◌∷◌, arith, subst}
 use Rattle.chart_rows.specs.{Cells.letter_at, Views.last_place}
 use Rattle.chart_rows.specs.Bands.{last_column}
 use Rattle.charts.proofs.Lines.{next_letter, one_less}
-use Rattle.charts.proofs.text.write_cells.Goals as goal
+use Rattle.charts.proofs.text.line.write_cells.Goals as goal
 
 pub loop-place-preserved : goal.loop-place-preserved
 loop-place-preserved g c =
