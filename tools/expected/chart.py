@@ -1,8 +1,8 @@
-"""The chart of a trace, as `smtsim chart` has to draw it: the text, with --kanata the log for Konata, and with
---picture what picture.py has to read from the picture.
+"""The chart of a trace, as `smtsim chart` has to draw it: the text, and with --kanata the log for Konata. What its picture
+has to show says chart_picture.py.
 
     chart.py IMAGE TRACE [--config FILE] [--from N] [--to N] [--hart H] [--names] [--width W]
-             [--columns events | --columns rounds] [--registers] [--counters] [--kanata | --picture]
+             [--columns events | --columns rounds] [--registers] [--counters] [--kanata]
 
 Written from docs/FORMATS.md over the second judge's definitions (judge_history.py): which event squashed
 an instruction is the first of which `squashes` says so, and what is counted at a column, or found as an
@@ -237,65 +237,6 @@ def text(rows, first, last, hart, width):
         yield line
 
 
-PLACES = {
-    "F": "fetched",
-    "D": "decoded",
-    "R": "renamed",
-    "I": "issued",
-    "C": "completed",
-    "T": "retired",
-    "G": "refetched",
-}
-
-
-def title(history, row):
-    """What a browser shows of a row."""
-    beside = "" if Names.beside is None else " " + Names.beside(row.fetch.pc)
-    yield f"number {row.number} of hart {row.hart}: {row.fetch.pc:08x} {row.text}{beside}"
-    yield ", ".join(f"{said} {row.at[letter]}" for letter, said in PLACES.items() if letter in row.at)
-    if row.squash is not None:
-        yield f"squashed {row.squash} by number {row.by}" + (f", handed back {row.at['X']}" if "X" in row.at else "")
-    if row.replayed:
-        first, second = history.events[row.at["C"]].outcome.value, history.events[row.at["T"]].effect.value
-        yield f"replayed: its first look found {first:08x}, its second {second:08x}"
-
-
-# The eight colours of Okabe and Ito for harts 0 to 7, with a grey for black.
-COLOURS = ("#e69f00", "#56b4e9", "#009e73", "#f0e442", "#0072b2", "#d55e00", "#cc79a7", "#888888")
-
-
-def look_of(hart):
-    """The colour of a hart, and its edge."""
-    return f"{COLOURS[hart % 8]}{' thick' if hart > 7 else ''}"
-
-
-def picture(history, rows, first, last, hart, width):
-    """What picture.py reads from a picture: the legend, the bands with the look of each bar, and the titles."""
-    yield f"Events {first} to {last}" if first <= last else "No events"
-    shown = [row for row in rows if row.is_shown(first, last, hart)]
-    for one in sorted({row.hart for row in shown}):
-        yield f"hart {one} {look_of(one)}"
-    columns = max(1, min(last - first + 1, width))
-    start, ruler, is_first = first - columns, None, True
-    for line, row in bands(rows, first, last, hart, columns):
-        if row is UNDER:
-            continue
-        if row is None:
-            # A band without a row can't be seen, so its numbers wait for one.
-            start += columns if line else 0
-            ruler = line
-            continue
-        if ruler is not None:
-            yield from [ruler.rstrip()] if is_first else ["", ruler.rstrip()]
-            ruler, is_first = None, False
-        # Its bar ends with its squash.
-        over = row.squash is not None and row.squash < start
-        yield line if over else f"{line} [{look_of(row.hart)}{' gone' if row.squash is not None else ''}]"
-    yield ""
-    for row in shown:
-        yield from title(history, row)
-
-
 def waited_for(rows, row, register):
     """The instruction whose number for a register a renamed one had to wait for."""
     if not register:
@@ -389,7 +330,6 @@ def main(words):
     line.add_argument("--registers", action="store_true")
     line.add_argument("--counters", action="store_true")
     line.add_argument("--kanata", action="store_true")
-    line.add_argument("--picture", action="store_true")
     asked = line.parse_args(words)
     try:
         image, settings, events = judge.read(asked.image, asked.trace, asked.config)
@@ -412,8 +352,6 @@ def main(words):
     first, last = shown_columns(asked.first, min(asked.last, len(events) - 1))
     if asked.kanata:
         lines = kanata(history, rows, first, last, asked.hart)
-    elif asked.picture:
-        lines = picture(history, rows, first, last, asked.hart, asked.width)
     else:
         lines = text(rows, first, last, asked.hart, asked.width)
     sys.stdout.writelines(f"{line}\n" for line in lines)

@@ -1,15 +1,15 @@
 -- The limits, from mark to mark and from row to row.
 use Rattle.std.specs.Prelude.{◌≡◌, ℕ, suc, ◌+◌, ◌<◌, ◌≤◌, Bool, true, false, ◌==◌, ◌&&◌, ◌||◌, nat_le, nat_lt, if◌then◌else◌}
-use Rattle.std.specs.Prelude.{List, [], ◌∷◌, ◌++◌, length, take, max, Option, Some, None}
+use Rattle.std.specs.Prelude.{List, [], ◌∷◌, ◌++◌, length, take, max, replicate, Option, Some, None}
 use Rattle.std.specs.List.{list_any}
 use Rattle.std.proofs.Common.{get_or, refl, sym, ap, subst, ◌∙◌, arith, inl, inr}
 use Rattle.std.proofs.lemmas.Bool.{cases_Bool, Decides.nat_tests}
 use Rattle.std.proofs.lemmas.Grind.{common_steps}
-use Rattle.std.proofs.lemmas.List.{take_more, take_all}
+use Rattle.std.proofs.lemmas.List.{take_more, take_all, get_or-replicate, length-replicate}
 use Rattle.std.proofs.lemmas.List.Folds.{list_any-append}
 use Rattle.chart_rows.specs.{declared.row.Row.Row, Cells.is_at}
 use Rattle.chart_columns.specs.Rounds.{has_between, is_marked, lies_between, marks, shares_row}
-use Rattle.chart_columns.specs.Limits.{AreBehind, AreRaised, AreRaisedBy, IsBehind}
+use Rattle.chart_columns.specs.Limits.{AreBehind, AreLimits, AreRaised, AreRaisedBy, IsBehind}
 
 or_false : (a : Bool) → (a || false) ≡ a
 or_false true = refl
@@ -145,3 +145,18 @@ rows_more rows i d old mid new all inside is before next = record {
 pub rows_all : (rows : List Row) (i : ℕ) (old new : List ℕ) → length rows ≤ i
     → AreRaised (take i rows) old new → AreRaised rows old new
 rows_all rows i old new end are = subst (λ xs. AreRaised xs old new) (take_all i rows end) are
+
+-- Limits that are raised from 0 are those of the rows.
+pub limits_of : (rows : List Row) (count : ℕ) (old new : List ℕ) → old ≡ replicate count 0 → AreRaised rows old new
+    → AreLimits rows new
+limits_of rows count old new noughts raised = record {
+  each = λ place d inside from.
+      let here : place < length old = subst (λ n. place < n) raised.count inside in
+      let there : place < count =
+      subst (λ n. place < n) (ap length noughts ∙ length-replicate count 0) here in
+      let nought : get_or old place d ≡ 0 =
+      ap (λ xs. get_or xs place d) noughts ∙ get_or-replicate count place 0 d there in
+      let none : nat_lt from (get_or old place d) ≡ false =
+      ap (nat_lt from) nought ∙ grind (arith, nat_tests, common_steps) in
+      raised.each place d from here ∙ ap (λ b. b || shares_row rows from place) none;
+}

@@ -1,13 +1,15 @@
 -- The rounds of a history, from event to event.
 use Rattle.std.specs.Prelude.{◌≡◌, ℕ, zero, suc, ◌+◌, ◌-◌, ◌<◌, ◌≤◌, Bool, true, false, ◌==◌, ◌&&◌, ◌||◌, nat_le, nat_lt}
-use Rattle.std.specs.Prelude.{List, [], ◌∷◌, ◌++◌, length, reverse, take, drop, if◌then◌else◌, Option, Some, None, All}
+use Rattle.std.specs.Prelude.{set, List, [], ◌∷◌, ◌++◌, length, reverse, take, drop, if◌then◌else◌, Option, Some, None, All}
 use Rattle.std.specs.List.{list_any}
 use Rattle.std.proofs.Common.{get_or, refl, sym, ap, subst, ◌∙◌, arith, inl, inr}
 use Rattle.std.proofs.lemmas.Bool.{cases_Bool, cases_lt, Decides.nat_tests}
 use Rattle.std.proofs.lemmas.Grind.{common_steps}
 use Rattle.std.proofs.lemmas.List.{take_more, take-append-drop, drop-take, length-drop, length-reverse, length-take-le}
-use Rattle.std.proofs.lemmas.List.{reverse-append}
+use Rattle.std.proofs.lemmas.List.{reverse-append, get_or-set_other}
+use Rattle.std.proofs.lemmas.Grind.{get_or-set_at}
 use Rattle.std.proofs.lemmas.List.Folds.{list_any-append, list_any_at}
+use Rattle.numbers.specs.Sizes.{most_events}
 use Rattle.events.specs.{declared.event.Event.Event, Event.actor_of}
 use Rattle.chart_rows.specs.{declared.row.Row.Row, Cells.is_at}
 use Rattle.chart_columns.specs.declared.rounds.Round.{Round}
@@ -51,10 +53,10 @@ newest xs from =
 -- ---- From event to event
 
 module _ (rows : List Row) (events : List Event) where
-  pub round_at : ℕ → Round
+  abbrev pub round_at : ℕ → Round
   round_at n = round rows (reverse (take n events))
 
-  pub begins_at : (n : ℕ) (d : Event) → Bool
+  abbrev pub begins_at : (n : ℕ) (d : Event) → Bool
   begins_at n d = meets rows (get_or events n d) (reverse (take n events)) (round_at n).start
 
   long : (n : ℕ) → n ≤ length events → length (reverse (take n events)) ≡ n
@@ -96,6 +98,45 @@ module _ (rows : List Row) (events : List Event) where
 
 -- ---- What rounds keep
 
+-- The round of one more event, by its limit.
+pub round_is : (rows : List Row) (events : List Event) (n : ℕ) (d : Event) (limit : ℕ) (r result : Round)
+    → n < length events → ((from : ℕ) → nat_lt from limit ≡ shares_row rows from n) → r.start ≤ n
+    → r ≡ round_at rows events n
+    → result ≡ next_round (has_actor (actor_of (get_or events n d)) (take (n - r.start) (drop r.start events))
+    || nat_lt r.start limit) n r
+    → result ≡ round_at rows events (n + 1)
+round_is rows events n d limit r result inside says within same is =
+    let step : Round → Round = λ (old : Round). next_round (has_actor (actor_of (get_or events n d))
+    (take (n - old.start) (drop old.start events)) || nat_lt old.start limit) n old in
+    is ∙ ap step same
+    ∙ ap (λ b. next_round b n (round_at rows events n))
+    (sym (begins rows events n d limit inside says (subst (λ (old : Round). old.start ≤ n) same within)))
+    ∙ sym (next_at rows events n d inside)
+
+module _ (rows : List Row) (events : List Event) (table limits : List ℕ) (n column : ℕ)
+    (count : length table ≡ length events) (inside : n < length events) where
+  pub left_alike : ((k d : ℕ) → n ≤ k → k < length events → get_or table k d ≡ get_or limits k d)
+      → (k d : ℕ) → n + 1 ≤ k → k < length events → get_or (set table n column) k d ≡ get_or limits k d
+  left_alike before k d least below =
+      get_or-set_other table n k column d (λ same. absurd (omega (arith, least, same)))
+      ∙ before k d (omega (arith, least)) below
+
+  pub done_more : ((k d : ℕ) → k < n → get_or table k d ≡ column_at rows events k)
+      → column ≡ column_at rows events n
+      → (k d : ℕ) → k < n + 1 → get_or (set table n column) k d ≡ column_at rows events k
+  done_more before is k d below = elim (cases_lt k n) [
+    | inl older ↦
+        get_or-set_other table n k column d (λ same. absurd (omega (arith, older, same))) ∙ before k d older
+    | inr newest ↦
+        let same : k ≡ n = omega (arith, below, newest) in
+        get_or-set_at table n k column d same (omega (arith, count, inside)) ∙ is
+        ∙ ap (column_at rows events) (sym same)
+  ]
+
+pub limit_at : (rows : List Row) (limits : List ℕ) (n d limit : ℕ) → n < length limits → AreLimits rows limits
+    → limit ≡ get_or limits n d → (from : ℕ) → nat_lt from limit ≡ shares_row rows from n
+limit_at rows limits n d limit inside are same from = ap (nat_lt from) same ∙ are.each n d inside from
+
 begun_start : (b : Bool) (n : ℕ) (r : Round) → r.start ≤ n → (next_round b n r).start ≤ n
 begun_start true n r before = omega arith
 begun_start false n r before = before
@@ -107,6 +148,18 @@ no_lower false n r = omega arith
 no_higher : (b : Bool) (n : ℕ) (r : Round) → (next_round b n r).column ≤ r.column + 1
 no_higher true n r = omega arith
 no_higher false n r = omega arith
+
+pub start_stays : (n : ℕ) (r result : Round) (b : Bool) → r.start ≤ n → result ≡ next_round b n r
+    → result.start ≤ n + 1
+start_stays n r result b before is =
+    let here = begun_start b n r before in
+    subst (λ (new : Round). new.start ≤ n + 1) (sym is) (omega (arith, here))
+
+pub column_stays : (n : ℕ) (r result : Round) (b : Bool) → r.column ≤ n → result ≡ next_round b n r
+    → result.column ≤ n + 1
+column_stays n r result b before is =
+    let here = no_higher b n r in
+    subst (λ (new : Round). new.column ≤ n + 1) (sym is) (omega (arith, here, before))
 
 pub start_within : (b : Bool) (n : ℕ) (r : Round) → r.start ≤ n → (next_round b n r).start ≤ n + 1
 start_within b n r before = let here = begun_start b n r before in omega arith
@@ -120,7 +173,7 @@ any_true false = refl
 
 any_between : (all : List (Option ℕ)) (from one place : ℕ) → from ≤ one → one < place
     → is_marked one all ≡ true → has_between from place all ≡ true
-any_between [] from one place least below is = grind (common_steps, is)
+any_between [] from one place least below is = grind (arith, common_steps, is)
 any_between (None ∷ all) from one place least below is = any_between all from one place least below is
 any_between (Some at ∷ all) from one place least below is = elim (cases_Bool (at == one)) [
   | inl same ↦
@@ -217,3 +270,28 @@ module _ (rows : List Row) (events : List Event) (d : Event) where
       let actor = has_actor (actor_of (get_or events other d)) (take (length past - from) past) in
       ap (λ place. actor || shares_row rows from place) here
       ∙ ap (λ b. actor || b) (shares rows k e from one other row least below is also) ∙ any_true actor)
+
+-- ---- The table
+
+module _ (rows : List Row) (events : List Event) (columns : List ℕ) (are : AreColumns rows events columns)
+    (d : Event) where
+  pub table_is : length events ≤ most_events → IsTable columns
+  table_is few = record {
+    few = subst (λ n. n ≤ most_events) (sym are.count) few;
+    rises = λ i j e least below.
+        let inside : j < length events = subst (λ n. j < n) are.count below in
+        let first : i < length events = omega (arith, least, inside) in
+        let up = rises rows events d (i + 1) (j + 1) (omega (arith, least)) (omega (arith, inside)) in
+        subst (λ n. n ≤ get_or columns j e) (sym (are.each i e first))
+        (subst (λ n. column_at rows events i ≤ n) (sym (are.each j e inside)) up);
+  }
+
+  pub row_apart : (k : ℕ) (e : Row) → k < length rows → KeepsApart columns (get_or rows k e)
+  row_apart k e row = record {
+    apart = λ one other below inside is also.
+        let there : other < length events = subst (λ n. other < n) are.count inside in
+        let first : one < length events = omega (arith, below, there) in
+        let less = keeps_apart rows events d k e one other row below there is also in
+        subst (λ n. n < column columns other) (sym (are.each one one first))
+        (subst (λ n. column_at rows events one < n) (sym (are.each other other there)) less);
+  }

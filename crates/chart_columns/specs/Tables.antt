@@ -52,7 +52,6 @@ placed_view columns view =
     else record view { from = column columns view.from; to = column columns view.to }
 
 -- No two marks of a row at different places have one column.
-abbrev pub KeepsApart : List ℕ → Row → Type 0
-KeepsApart columns row = (one other : ℕ) → one < other → other < length columns
-    → is_marked one (marks row) ≡ true → is_marked other (marks row) ≡ true
-    → column columns one < column columns other
+pub record KeepsApart (columns : List ℕ) (row : Row) : Type 0 where
+  pub apart : (one other : ℕ) → one < other → other < length columns → is_marked one (marks row) ≡ true
+      → is_marked other (marks row) ≡ true → column columns one < column columns other

@@ -1,6 +1,6 @@
 //! Where a row has letters.
 
-ghost use Rattle.std.specs.Prelude.{◌≡◌};
+ghost use Rattle.std.specs.Prelude.{◌≡◌, max};
 ghost use Rattle.chart_columns.specs.Rounds.{marks};
 ghost use Rattle.chart_columns.specs.Limits.{AreBehind, IsBehind};
 
@@ -36,7 +36,7 @@ pub(crate) fn behind_marks(marks: &[Option<u32>], place: u32) -> u32
 {
     let mut latest = 0;
     for index in 0..marks.len() {
-        latest = latest.max(behind(marks[index], place));
+        latest = greater(latest, behind(marks[index], place));
     }
     latest
 }
@@ -49,4 +49,10 @@ fn behind(mark: Option<u32>, place: u32) -> u32
         Some(at) if at < place => at + 1,
         _ => 0,
     }
+}
+
+fn greater(one: u32, other: u32) -> u32
+    ensures { result ≡ max one other }
+{
+    one.max(other)
 }

@@ -1,6 +1,6 @@
 //! The column of each event, where as many stand in one as can.
 
-ghost use Rattle.std.specs.Prelude.{◌≡◌, ◌-◌, ◌||◌, ◌<◌, ◌≤◌, ℕ, IfOk, List, drop, length, nat_lt, slice_index_or, take};
+ghost use Rattle.std.specs.Prelude.{◌≡◌, ◌-◌, ◌||◌, ◌<◌, ◌≤◌, ℕ, IfOk, List, drop, length, nat_lt, replicate, slice_index_or, take};
 ghost use Rattle.numbers.specs.Sizes.{most_events};
 ghost use Rattle.events.specs.Event.{actor_of};
 ghost use Rattle.events.specs.declared.event.Event.{Event as AnyEvent};
@@ -25,9 +25,18 @@ pub(crate) fn round_columns(
 {
     let mut table = Vec::new(alloc);
     table.resize(events.len(), 0)?;
-    enter_rows(table.as_mut_slice(), rows);
-    number_rounds(table.as_mut_slice(), events);
+    fill(table.as_mut_slice(), rows, events);
     Ok(table)
+}
+
+/// Makes of a table of noughts, one for each event, that of their columns.
+fn fill(table: &mut [u32], rows: &[Row], events: &[Event])
+    requires noughts { table.old ≡ replicate (length events.now) 0 }
+    requires few { length events.now ≤ most_events }
+    ensures { AreColumns rows.now events.now table.new }
+{
+    enter_rows(table, rows);
+    number_rounds(table, events);
 }
 
 /// The round of an event.

@@ -14,7 +14,8 @@ use numbers::{Phys, Reg, Seq};
 use rv_instr::Op;
 use smt_core::Core;
 
-/// What the instruction that this event renames finds in the core as it is before, of which these hold the registers.
+/// What instruction `seq` finds in a core that renames it next, as `actor`, and gives it the register `phys`, or none. By
+/// each physical register's number the holders have the instruction that was given it last.
 pub(crate) fn registers_by(
     core: &Core,
     holders: &[Option<Seq>],

@@ -1,5 +1,6 @@
 -- What the loops over a chart's rows and columns write.
-use Rattle.std.specs.Prelude.{filter, if◌then◌else◌}
+use Rattle.std.specs.Prelude.{filter, find, if◌then◌else◌, ◌&&◌}
+use Rattle.events.specs.declared.event.Event.{Event}
 use Rattle.std.specs.List.{range_with_len}
 use Rattle.std.specs.Io.KnownBytes.{Appends}
 use Rattle.std.proofs.Common.{◌≡◌, ℕ, zero, suc, ◌+◌, ◌-◌, ◌*◌, ◌/◌, ◌<◌, ◌≤◌, ◌^◌, min, Bool, true, false, not, nat_lt}
@@ -16,13 +17,16 @@ use Rattle.text_fields.specs.Each.{each_from}
 use Rattle.text_fields.proofs.Appending.{appends_more, each_step}
 use Rattle.address_labels.specs.Labels.{Marks}
 use Rattle.chart_rows.specs.{declared.row.Row.Row, declared.view.View.View, declared.band.Band.Band}
+use Rattle.chart_columns.specs.Tables.{head}
 use Rattle.charts.specs.declared.label.Widths.{Widths}
+use Rattle.charts.specs.Drawings.{Drawing}
+use Rattle.charts.specs.Whys.{is_crossed, is_shown_crossed, why_text, whys_over}
 use Rattle.chart_rows.specs.Views.{shows, is_before, last_place, draws_hart}
 use Rattle.chart_rows.specs.Order.{AreByFetch, AreOver, AreOverBefore}
 use Rattle.chart_rows.specs.Cells.{letter_at}
 use Rattle.charts.specs.Text.{widened, widened_over, row_text, places, ruler_from}
 use Rattle.chart_rows.specs.Bands.{band_of, bands_of, within}
-use Rattle.charts.specs.Text.{number_over, column_behind, band_text, bands_text, gap_before, chart_by, chart_text}
+use Rattle.charts.specs.Text.{number_over, free_behind, band_text, bands_text, gap_before, chart_by, chart_text}
 use Rattle.charts.specs.Text.{columns_in, line_text, widths_of}
 
 appends_none : (old : Option (List ℕ)) → Appends old old []
@@ -69,12 +73,14 @@ next_letter row place last below = ap (map (letter_at row)) (next_place place la
 pub no_letter : (row : Row) (place last : ℕ) → last < place → map (letter_at row) (places place last) ≡ []
 no_letter row place last above = ap (map (letter_at row)) (no_place place last above)
 
-pub next_number : (column place last : ℕ) → place ≤ last → ruler_from column (places place last)
-    ≡ number_over column place ++ ruler_from (column_behind column place) (places (place + 1) last)
-next_number column place last below = ap (ruler_from column) (next_place place last below)
+pub next_number : (heads : List ℕ) (free column last : ℕ) → column ≤ last
+    → ruler_from heads free (places column last) ≡ number_over free column (head heads column)
+    ++ ruler_from heads (free_behind free column (head heads column)) (places (column + 1) last)
+next_number heads free column last below = ap (ruler_from heads free) (next_place column last below)
 
-pub no_number : (column place last : ℕ) → last < place → ruler_from column (places place last) ≡ []
-no_number column place last above = ap (ruler_from column) (no_place place last above)
+pub no_number : (heads : List ℕ) (free column last : ℕ) → last < column
+    → ruler_from heads free (places column last) ≡ []
+no_number heads free column last above = ap (ruler_from heads free) (no_place column last above)
 
 -- ---- Widths
 
@@ -179,9 +185,9 @@ none_behind text n xs none =
     ∙ sym (seam text 0 n xs)
 
 -- One that isn't shown in a band has no text.
-unshown : (widths : Widths) (marks : Marks) (view : View) (band : Band) (k : ℕ) (row : Row)
-    → shows (within view band) row ≡ false → row_text widths marks view band k row ≡ []
-unshown widths marks view band k row is = rw is refl
+unshown : (widths : Widths) (drawing : Drawing) (band : Band) (k : ℕ) (row : Row)
+    → shows (within drawing.view band) row ≡ false → row_text widths drawing band k row ≡ []
+unshown widths drawing band k row is = rw is refl
 
 over_unshown : (view : View) (band : Band) (row : Row) → is_before (last_place row) band.from ≡ true
     → shows (within view band) row ≡ false
@@ -190,87 +196,159 @@ over_unshown view band row is = grind (arith, nat_tests, common_steps, is)
 late_unshown : (view : View) (band : Band) (row : Row) → band.to < row.fetched → shows (within view band) row ≡ false
 late_unshown view band row is = grind (arith, nat_tests, common_steps, is)
 
-module _ (widths : Widths) (marks : Marks) (view : View) (band : Band) (rows : List Row) (old : Option (List ℕ)) where
-  pub none_so_far : (first : ℕ) → AreOver rows first band.from
-      → Appends old old (each_from (row_text widths marks view band) 0 (take first rows))
+module _ (widths : Widths) (drawing : Drawing) (band : Band) (old : Option (List ℕ)) where
+  pub none_so_far : (first : ℕ) → AreOver drawing.rows first band.from
+      → Appends old old (each_from (row_text widths drawing band) 0 (take first drawing.rows))
   none_so_far first over =
-      let none : each_from (row_text widths marks view band) 0 (take first rows) ≡ [] =
-      none_before (row_text widths marks view band) first rows (λ k d before below.
-      unshown widths marks view band k (get_or rows k d)
-      (over_unshown view band (get_or rows k d) (over k d (omega arith) before))) in
+      let none : each_from (row_text widths drawing band) 0 (take first drawing.rows) ≡ [] =
+      none_before (row_text widths drawing band) first drawing.rows (λ k d before below.
+      unshown widths drawing band k (get_or drawing.rows k d)
+      (over_unshown drawing.view band (get_or drawing.rows k d) (over k d (omega arith) before))) in
       subst (λ t. Appends old old t) (sym none) (appends_none old)
 
-  pub none_later : (i : ℕ) (e : Row) (new : Option (List ℕ)) → AreByFetch rows → i < length rows
-      → band.to < (get_or rows i e).fetched
-      → Appends old new (each_from (row_text widths marks view band) 0 (take i rows))
-      → Appends old new (each_from (row_text widths marks view band) 0 rows)
+  pub none_later : (i : ℕ) (e : Row) (new : Option (List ℕ)) → AreByFetch drawing.rows → i < length drawing.rows
+      → band.to < (get_or drawing.rows i e).fetched
+      → Appends old new (each_from (row_text widths drawing band) 0 (take i drawing.rows))
+      → Appends old new (each_from (row_text widths drawing band) 0 drawing.rows)
   none_later i e new by inside late written =
-      let none : each_from (row_text widths marks view band) 0 (take i rows)
-      ≡ each_from (row_text widths marks view band) 0 rows =
-      none_behind (row_text widths marks view band) i rows (λ k d least below.
-      unshown widths marks view band k (get_or rows k d) (late_unshown view band (get_or rows k d)
+      let none : each_from (row_text widths drawing band) 0 (take i drawing.rows)
+      ≡ each_from (row_text widths drawing band) 0 drawing.rows =
+      none_behind (row_text widths drawing band) i drawing.rows (λ k d least below.
+      unshown widths drawing band k (get_or drawing.rows k d) (late_unshown drawing.view band (get_or drawing.rows k d)
       (omega (
         arith,
-        subst (λ (row : Row). band.to < row.fetched) (get_or_default rows i e d inside) late,
+        subst (λ (row : Row). band.to < row.fetched) (get_or_default drawing.rows i e d inside) late,
         by i k d least below,
       )))) in
       subst (λ t. Appends old new t) none written
 
 -- A row's line is written where something of it is shown in the band.
-pub next_row : (widths : Widths) (marks : Marks) (view : View) (band : Band) (rows : List Row) (shown : View)
-    (old mid new : Option (List ℕ)) (i : ℕ) (d : Row) → i < length rows → shown ≡ within view band
-    → Appends old mid (each_from (row_text widths marks view band) 0 (take i rows))
-    → Appends mid new (if shows shown (get_or rows i d) then line_text widths marks band i (get_or rows i d) else [])
-    → Appends old new (each_from (row_text widths marks view band) 0 (take (i + 1) rows))
-next_row widths marks view band rows shown old mid new i d inside same before written =
-    each_step (row_text widths marks view band) old mid new rows i d inside before
-    (subst (λ (v : View). Appends mid new
-    (if shows v (get_or rows i d) then line_text widths marks band i (get_or rows i d) else [])) same written)
+pub next_row : (widths : Widths) (drawing : Drawing) (band : Band) (shown : View)
+    (old mid new : Option (List ℕ)) (i : ℕ) (d : Row) → i < length drawing.rows → shown ≡ within drawing.view band
+    → Appends old mid (each_from (row_text widths drawing band) 0 (take i drawing.rows))
+    → Appends mid new (if shows shown (get_or drawing.rows i d)
+    then line_text widths drawing.marks drawing.registers band i (get_or drawing.rows i d) else [])
+    → Appends old new (each_from (row_text widths drawing band) 0 (take (i + 1) drawing.rows))
+next_row widths drawing band shown old mid new i d inside same before written =
+    each_step (row_text widths drawing band) old mid new drawing.rows i d inside before
+    (subst (λ (v : View). Appends mid new (if shows v (get_or drawing.rows i d)
+    then line_text widths drawing.marks drawing.registers band i (get_or drawing.rows i d) else [])) same written)
 
 -- ---- The bands
 
-one_more_band : (widths : Widths) (marks : Marks) (view : View) (rows : List Row) (columns number : ℕ)
-    (old gap mid new : Option (List ℕ)) → Appends old gap (bands_text widths marks view rows columns number)
+one_more_band : (widths : Widths) (drawing : Drawing) (columns number : ℕ)
+    (old gap mid new : Option (List ℕ)) → Appends old gap (bands_text widths drawing columns number)
     → Appends gap mid (gap_before number)
-    → Appends mid new (band_text widths marks view rows (band_of view columns number))
-    → Appends old new (bands_text widths marks view rows columns (number + 1))
-one_more_band widths marks view rows columns number old gap mid new before apart next =
+    → Appends mid new (band_text widths drawing (band_of drawing.view columns number))
+    → Appends old new (bands_text widths drawing columns (number + 1))
+one_more_band widths drawing columns number old gap mid new before apart next =
     let more : number + 1 ≡ suc number = omega arith in
-    subst (λ n. Appends old new (bands_text widths marks view rows columns n)) (sym more)
+    subst (λ n. Appends old new (bands_text widths drawing columns n)) (sym more)
     (appends_more old gap new _ _ before (appends_more gap mid new _ _ apart next))
 
-module _ (widths : Widths) (marks : Marks) (view : View) (rows : List Row) (columns : ℕ) (old : Option (List ℕ)) where
-  pub no_band : (gap : Option (List ℕ)) → gap ≡ old → Appends old gap (bands_text widths marks view rows columns 0)
+module _ (widths : Widths) (drawing : Drawing) (columns : ℕ) (old : Option (List ℕ)) where
+  pub no_band : (gap : Option (List ℕ)) → gap ≡ old → Appends old gap (bands_text widths drawing columns 0)
   no_band gap same = subst (λ (g : Option (List ℕ)). Appends old g []) (sym same) (appends_none old)
 
   pub next_band : (number bands first next : ℕ) (band : Band) (gap mid new : Option (List ℕ)) → number < bands
-      → 1 < columns → (1 < columns → bands ≡ bands_of view columns)
-      → (number < bands_of view columns → band ≡ band_of view columns number)
-      → AreOver rows first (view.from + number * columns) → AreOverBefore rows first next band.from
-      → (AreByFetch rows → Appends old gap (bands_text widths marks view rows columns number))
+      → 1 < columns → (1 < columns → bands ≡ bands_of drawing.view columns)
+      → (number < bands_of drawing.view columns → band ≡ band_of drawing.view columns number)
+      → AreOver drawing.rows first (drawing.view.from + number * columns)
+      → AreOverBefore drawing.rows first next band.from
+      → (AreByFetch drawing.rows → Appends old gap (bands_text widths drawing columns number))
       → Appends gap mid (gap_before number)
-      → (AreByFetch rows → AreOver rows next band.from
-      → Appends mid new (band_text widths marks view rows band))
-      → (AreByFetch rows → Appends old new (bands_text widths marks view rows columns (number + 1)))
-      × AreOver rows next (view.from + (number + 1) * columns)
+      → (AreByFetch drawing.rows → AreOver drawing.rows next band.from
+      → Appends mid new (band_text widths drawing band))
+      → (AreByFetch drawing.rows → Appends old new (bands_text widths drawing columns (number + 1)))
+      × AreOver drawing.rows next (drawing.view.from + (number + 1) * columns)
   next_band number bands first next band gap mid new below wide many is before more written apart told =
+      let rows = drawing.rows in
+      let view = drawing.view in
       let same : band ≡ band_of view columns number =
       is (subst (λ (n : ℕ). number < n) (many wide) below) in
       let begins : band.from ≡ view.from + number * columns = ap (λ (b : Band). b.from) same in
       let over : AreOver rows next band.from = over_from rows first next band.from
       (subst (λ (n : ℕ). AreOver rows first n) (sym begins) before) more in
       let later : view.from + number * columns ≤ view.from + (number + 1) * columns = grind arith in (
-        λ by. one_more_band widths marks view rows columns number old gap mid new (written by) apart
-            (subst (λ (b : Band). Appends mid new (band_text widths marks view rows b)) same (told by over)),
+        λ by. one_more_band widths drawing columns number old gap mid new (written by) apart
+            (subst (λ (b : Band). Appends mid new (band_text widths drawing b)) same (told by over)),
         over_later rows next (view.from + number * columns) (view.from + (number + 1) * columns) later
             (subst (λ (n : ℕ). AreOver rows next n) begins over),
       )
 
-pub chart_done : (width : ℕ) (widths : Widths) (marks : Marks) (view : View) (rows : List Row) (columns number : ℕ)
-    (old new : Option (List ℕ)) → widths ≡ widths_of view marks rows → columns ≡ columns_in width widths
-    → number ≡ bands_of view columns → Appends old new (bands_text widths marks view rows columns number)
-    → Appends old new (chart_text width marks view rows)
-chart_done width widths marks view rows columns number old new wide beside all written =
-    subst (λ (w : Widths). Appends old new (chart_by (columns_in width w) w marks view rows)) wide
-    (subst (λ (n : ℕ). Appends old new (chart_by n widths marks view rows)) beside
-    (subst (λ (n : ℕ). Appends old new (bands_text widths marks view rows columns n)) all written))
+pub chart_done : (drawing : Drawing) (widths : Widths) (columns number : ℕ) (old new : Option (List ℕ))
+    → widths ≡ widths_of drawing.view drawing.marks drawing.registers drawing.rows
+    → columns ≡ columns_in drawing.width widths → number ≡ bands_of drawing.view columns
+    → Appends old new (bands_text widths drawing columns number) → Appends old new (chart_text drawing)
+chart_done drawing widths columns number old new wide beside all written =
+    subst (λ (w : Widths). Appends old new (chart_by (columns_in drawing.width w) w drawing)) wide
+    (subst (λ (n : ℕ). Appends old new (chart_by n widths drawing)) beside
+    (subst (λ (n : ℕ). Appends old new (bands_text widths drawing columns n)) all written))
+
+-- ---- Why rows are squashed
+
+pub next_why : (rows : List Row) (events : List Event) (shown : View) (columns : List ℕ) (place last : ℕ)
+    → place ≤ last → whys_over rows events shown columns (places place last)
+    ≡ why_text rows events shown columns place ++ whys_over rows events shown columns (places (place + 1) last)
+next_why rows events shown columns place last below =
+    ap (whys_over rows events shown columns) (next_place place last below)
+
+pub no_why : (rows : List Row) (events : List Event) (shown : View) (columns : List ℕ) (place last : ℕ)
+    → last < place → whys_over rows events shown columns (places place last) ≡ []
+no_why rows events shown columns place last above =
+    ap (whys_over rows events shown columns) (no_place place last above)
+
+-- The first that is crossed: none before some row that isn't shown.
+unfound : {A : Type 0} (p : A → Bool) (xs : List A) → ((k : ℕ) (d : A) → k < length xs → p (get_or xs k d) ≡ false)
+    → find p xs ≡ None
+unfound p [] none = refl
+unfound p (x ∷ xs) none =
+    ap (λ b. if b then Some x else find p xs) (none 0 x (omega arith))
+    ∙ unfound p xs (λ k d below. none (suc k) d (omega (arith, below)))
+
+-- Where none of the first i passes: if the next one does, it is found, and if none of the others does, none is.
+pub found_at : {A : Type 0} (p : A → Bool) (xs : List A) (i : ℕ) (d : A) → i < length xs
+    → ((k : ℕ) (e : A) → k < i → p (get_or xs k e) ≡ false) → p (get_or xs i d) ≡ true
+    → find p xs ≡ Some (get_or xs i d)
+found_at p [] i d below none is = absurd (omega (arith, below))
+found_at p (x ∷ xs) zero d below none is = ap (λ b. if b then Some x else find p xs) is
+found_at p (x ∷ xs) (suc i) d below none is =
+    ap (λ b. if b then Some x else find p xs) (none 0 x (omega arith))
+    ∙ found_at p xs i d (omega (arith, below)) (λ k e before. none (suc k) e (omega (arith, before))) is
+
+module _ (rows : List Row) (shown : View) (column by : ℕ) where
+  uncrossed : (row : Row) → shows shown row ≡ false → is_shown_crossed shown column by row ≡ false
+  uncrossed row is = ap (λ b. is_crossed column by row && b) is ∙ none (is_crossed column by row)
+  where
+    none : (b : Bool) → (b && false) ≡ false
+    none true = refl
+    none false = refl
+
+  pub none_crossed_before : (first : ℕ) → AreOver rows first shown.from → (k : ℕ) (d : Row) → k < first
+      → is_shown_crossed shown column by (get_or rows k d) ≡ false
+  none_crossed_before first over k d before =
+      uncrossed (get_or rows k d) (ended (get_or rows k d) (over k d (omega arith) before))
+  where
+    ended : (row : Row) → is_before (last_place row) shown.from ≡ true → shows shown row ≡ false
+    ended row is = grind (arith, nat_tests, common_steps, is)
+
+  pub none_crossed : (i : ℕ) (e : Row) → AreByFetch rows → i < length rows → shown.to < (get_or rows i e).fetched
+      → ((k : ℕ) (d : Row) → k < i → is_shown_crossed shown column by (get_or rows k d) ≡ false)
+      → find (is_shown_crossed shown column by) rows ≡ None
+  none_crossed i e by_fetch inside late none = unfound (is_shown_crossed shown column by) rows (λ k d below.
+      elim (cases_lt k i) [
+        | inl before ↦ none k d before
+        | inr later ↦
+            let rises = by_fetch i k d later below in
+            let begins = subst (λ (row : Row). shown.to < row.fetched) (get_or_default rows i e d inside) late in
+            uncrossed (get_or rows k d) (unbegun (get_or rows k d) (omega (arith, rises, begins)))
+      ])
+  where
+    unbegun : (row : Row) → shown.to < row.fetched → shows shown row ≡ false
+    unbegun row is = grind (arith, nat_tests, common_steps, is)
+
+  pub none_at_all : (i : ℕ) → length rows ≤ i
+      → ((k : ℕ) (d : Row) → k < i → is_shown_crossed shown column by (get_or rows k d) ≡ false)
+      → find (is_shown_crossed shown column by) rows ≡ None
+  none_at_all i end none = unfound (is_shown_crossed shown column by) rows (λ k d below.
+      none k d (omega (arith, end, below)))

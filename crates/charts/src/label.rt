@@ -7,6 +7,7 @@ ghost use Rattle.text_fields.specs.Spelling.{hex};
 ghost use Rattle.address_labels.specs.Labels.{marks_of};
 ghost use Rattle.charts.specs.Text.{
   digits,
+  field_text,
   instruction_text,
   label_text,
   name_text,
@@ -77,7 +78,7 @@ pub(crate) struct Widths {
 impl Widths {
     /// Of the names of the rows that are drawn.
     pub fn of(rows: &[Row], view: &View, labels: &Labels<'_>, registers: &[Option<Registers>]) -> Widths
-        ensures { result ≡ widths_of view.now (marks_of labels.now) rows.now }
+        ensures { result ≡ widths_of view.now (marks_of labels.now) registers.now rows.now }
     {
         let mut widths = Widths {
             hart: 1,
@@ -138,7 +139,8 @@ impl Widths {
         out: &mut W,
     ) -> io::Result<()>
         ensures { OnOk result (Appends (W.contents out.old) (W.contents out.new)
-            (name_text named.entry.form self.now (marks_of named.entry.labels.now) number row.now)) }
+            (name_text named.entry.form self.now (marks_of named.entry.labels.now) named.entry.registers.now
+            number row.now)) }
     {
         write_right(usize::from(row.hart), self.hart, out)?;
         write_right(number, self.number, out)?;
@@ -166,7 +168,9 @@ fn write_field<W: Write>(
     places: u32,
     number: usize,
     out: &mut W,
-) -> io::Result<()> {
+) -> io::Result<()>
+    ensures { OnOk result (Appends (W.contents out.old) (W.contents out.new) (field_text places registers.now number)) }
+{
     let width = width_of(registers, number);
     write_found(registers, number, out)?;
     write_spaces(places.saturating_sub(width) as usize, out)

@@ -1,5 +1,9 @@
 //! The registers of a row: what it was given for its destination, and what it found for its sources.
 
+ghost use Rattle.std.specs.Prelude.{◌≡◌, ◌<◌, OnOk, length, slice_index_or, Some, None};
+ghost use Rattle.std.specs.Io.KnownBytes.{Appends};
+ghost use Rattle.charts.specs.Found.{destination_text, found_text, registers_text, registers_width, source_text};
+
 use arrayvec::ArrayString;
 use chart_registers::{Destination, Registers, Source};
 use chart_rows::{Row, View};
@@ -12,7 +16,9 @@ pub(crate) fn registers_width(
     rows: &[Row],
     view: &View,
     registers: &[Option<Registers>],
-) -> u32 {
+) -> u32
+    ensures { result ≡ registers_width view.now registers.now rows.now }
+{
     let mut width = 0;
     for number in 0..rows.len() {
         if view.shows(&rows[number]) {
@@ -23,7 +29,10 @@ pub(crate) fn registers_width(
 }
 
 /// How wide the registers of the row with this number are; 0 where none are known.
-pub(crate) fn width_of(registers: &[Option<Registers>], number: usize) -> u32 {
+#[tactic(auto, unfolding(crate::specs::Found::registers_text))]
+pub(crate) fn width_of(registers: &[Option<Registers>], number: usize) -> u32
+    ensures { result ≡ length (registers_text registers.now number) }
+{
     match registers_at(registers, number) {
         Some(found) => {
             let [first, second] = found.sources;
@@ -34,30 +43,42 @@ pub(crate) fn width_of(registers: &[Option<Registers>], number: usize) -> u32 {
 }
 
 /// Writes the registers of the row with this number, a space before each.
+#[tactic(auto, unfolding(crate::specs::Found::registers_text))]
 pub(crate) fn write_found<W: Write>(
     registers: &[Option<Registers>],
     number: usize,
     out: &mut W,
-) -> io::Result<()> {
+) -> io::Result<()>
+    ensures { OnOk result (Appends (W.contents out.old) (W.contents out.new) (registers_text registers.now number)) }
+{
     match registers_at(registers, number) {
         Some(found) => write_registers(found, out),
         None => out.write_all(b""),
     }
 }
 
-fn write_registers<W: Write>(found: Registers, out: &mut W) -> io::Result<()> {
+fn write_registers<W: Write>(found: Registers, out: &mut W) -> io::Result<()>
+    ensures { OnOk result (Appends (W.contents out.old) (W.contents out.new) (found_text (Some found))) }
+{
     let [first, second] = found.sources;
     out.write_all(destination_of(found.destination).as_bytes())?;
     out.write_all(source_of(first).as_bytes())?;
     out.write_all(source_of(second).as_bytes())
 }
 
-fn registers_at(registers: &[Option<Registers>], number: usize) -> Option<Registers> {
-    *registers.get(number)?
+fn registers_at(registers: &[Option<Registers>], number: usize) -> Option<Registers>
+    ensures { result ≡ slice_index_or registers.now number None }
+{
+    match registers.get(number) {
+        Some(found) => *found,
+        None => None,
+    }
 }
 
 /// What was given for a destination, as ` x7>p33`.
-fn destination_of(destination: Option<Destination>) -> ArrayString<16> {
+fn destination_of(destination: Option<Destination>) -> ArrayString<16>
+    ensures { result.bytes ≡ destination_text destination }
+{
     let mut text = ArrayString::new();
     if let Some(given) = destination {
         text.push_str(" x");
@@ -69,7 +90,9 @@ fn destination_of(destination: Option<Destination>) -> ArrayString<16> {
 }
 
 /// What was found for a source, as ` x5<p31:4`, or ` x6<p6` where it is a register of the start.
-fn source_of(source: Option<Source>) -> ArrayString<24> {
+fn source_of(source: Option<Source>) -> ArrayString<24>
+    ensures { result.bytes ≡ source_text source }
+{
     let mut text = ArrayString::new();
     if let Some(found) = source {
         text.push_str(" x");

@@ -20,14 +20,13 @@ mod ruler;
 mod strip;
 mod style;
 
-pub use form::{PictureForm, Theme};
-
 use crate::chart::Chart;
 use crate::label::{Named, Widths};
 use address_labels::Form;
 use arrows::write_arrows;
 use chart_rows::{Band, Row, View, first_left};
 use counters::write_strips;
+pub use form::{PictureForm, Theme};
 use heading::{write_file_title, write_heading};
 use legend::write_legend;
 use page::{Page, count_shown};

@@ -1,11 +1,13 @@
 //! The chart as text: a row an instruction, a column an event or several, cut into bands that fit a screen.
 
-ghost use Rattle.std.specs.Prelude.{◌≡◌, ◌≤◌, ◌<◌, ◌^◌, ◌∷◌, [], if◌then◌else◌, IfOk, OnOk};
+ghost use Rattle.std.specs.Prelude.{◌≡◌, [], if◌then◌else◌, OnOk};
 ghost use Rattle.std.specs.Io.KnownBytes.{Appends};
 ghost use Rattle.text_fields.specs.Each.{each_from};
+ghost use Rattle.address_labels.specs.Labels.{marks_of};
 ghost use Rattle.chart_rows.specs.Views.{shows};
 ghost use Rattle.chart_rows.specs.Order.{AreByFetch, AreOver};
-ghost use Rattle.charts.specs.Text.{band_text, chart_text, columns_in, gap_before, row_text};
+ghost use Rattle.charts.specs.Drawings.{drawing_of};
+ghost use Rattle.charts.specs.Text.{band_text, chart_text, columns_in, gap_before, line_text, row_text};
 
 mod counted;
 mod line;
@@ -54,7 +56,10 @@ pub struct TextChart<'a> {
 
 /// Writes a chart in lines of so many characters as are wanted (docs/FORMATS.md). An error is the one that `out`
 /// answered.
-pub fn write_text<W: Write>(chart: &TextChart<'_>, out: &mut W) -> io::Result<()> {
+pub fn write_text<W: Write>(chart: &TextChart<'_>, out: &mut W) -> io::Result<()>
+    ensures { OnOk result (AreByFetch chart.now.rows.now → Appends (W.contents out.old) (W.contents out.new)
+        (chart_text (drawing_of chart.now))) }
+{
     let widths = Widths::of(chart.rows, &chart.view, &chart.labels, chart.registers);
     let columns = columns_in(chart.width, &widths);
     let mut first = 0;
@@ -95,7 +100,10 @@ fn write_band<W: Write>(
     band: &Band,
     widths: &Widths,
     out: &mut W,
-) -> io::Result<()> {
+) -> io::Result<()>
+    ensures { OnOk result (AreByFetch chart.now.rows.now → AreOver chart.now.rows.now first band.now.from
+        → Appends (W.contents out.old) (W.contents out.new) (band_text widths.now (drawing_of chart.now) band.now)) }
+{
     write_ruler(chart.columns, band, widths, out)?;
     write_rows(chart, first, band, widths, out)?;
     write_counters(chart, band, widths, out)?;
@@ -109,14 +117,18 @@ fn write_rows<W: Write>(
     band: &Band,
     widths: &Widths,
     out: &mut W,
-) -> io::Result<()> {
+) -> io::Result<()>
+    ensures { OnOk result (AreByFetch chart.now.rows.now → AreOver chart.now.rows.now first band.now.from
+        → Appends (W.contents out.old) (W.contents out.new)
+        (each_from (row_text widths.now (drawing_of chart.now) band.now) 0 chart.now.rows.now)) }
+{
     let shown = chart.view.within(band);
     for number in first..chart.rows.len() {
         let row = &chart.rows[number];
         if row.fetched > band.to {
             return Ok(());
         }
-        write_row(chart, number, &shown, band, widths, out)?;
+        write_row(chart, row, number, &shown, band, widths, out)?;
     }
     Ok(())
 }
@@ -124,13 +136,17 @@ fn write_rows<W: Write>(
 /// Writes the line of a row with this number, where something of it is shown.
 fn write_row<W: Write>(
     chart: &TextChart<'_>,
+    row: &Row,
     number: usize,
     shown: &View,
     band: &Band,
     widths: &Widths,
     out: &mut W,
-) -> io::Result<()> {
-    let row = &chart.rows[number];
+) -> io::Result<()>
+    ensures { OnOk result (Appends (W.contents out.old) (W.contents out.new)
+        (if shows shown.now row.now then line_text widths.now (marks_of chart.now.labels) chart.now.registers.now band.now
+        number row.now else [])) }
+{
     if shown.shows(row) {
         let named = Named {
             labels: &chart.labels,

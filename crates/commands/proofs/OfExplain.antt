@@ -1,15 +1,17 @@
 -- The command `explain`: what is printed in parts, and which refusal of a line it is.
-use Rattle.std.specs.Prelude.{◌≡◌, ◌⊎◌, ℕ, ◌++◌, true, false, Bool, List, [], Option, Some, None, Result, Ok, Err}
+use Rattle.std.specs.Prelude.{◌≡◌, ℕ, ◌++◌, List, [], Option, Some, None, Ok, Err}
 use Rattle.std.specs.Prelude.{codes}
-use Rattle.std.proofs.Common.{refl, sym, ap, ◌∙◌, append_assoc, subst, IfSome, IfNone, IfOk}
+use Rattle.std.proofs.Common.{refl, sym, ap, ◌∙◌, append_assoc, subst, IfSome}
 use Rattle.std.proofs.lemmas.List.{append-nil}
 use mathlib.Core.Logic.{inl, inr}
 use Rattle.std.specs.Io.KnownBytes.{Appends}
 use Rattle.text_fields.specs.{Printing.Prints}
 use Rattle.elf_image.specs.{declared.refusal.LoadRefused.LoadRefused, Refusal.reason_number, Loaded.IsImageOf}
 use Rattle.elf_image.specs.Image.{ProgramImage}
-use Rattle.explanations.specs.Explained.{Begins, IsRefusedBy, IsAccepted, IsConfigTold, IsImageTold, refused_line}
-use Rattle.explanations.specs.ConfigText.{accepted_config}
+use Rattle.explanations.specs.Explained.{IsRefusedBy, IsAccepted, IsConfigTold, IsImageTold}
+use Rattle.explanations.specs.{ConfigRefusal.IsConfigRefusedText, ImageRefusal.IsImageRefusedText}
+use Rattle.sim_inputs.specs.declared.explained.fault.NumberKey.TheVariants as key
+use Rattle.sim_inputs.specs.Explained.{default_of}
 use Rattle.sim_inputs.specs.{declared.settings.Settings.Settings}
 use Rattle.sim_inputs.specs.{Configuration.IsConfiguration, Configuration.with_harts, declared.line.Beside.Beside}
 use Rattle.sim_inputs.specs.declared.line.Beside.TheVariants as beside
@@ -24,12 +26,11 @@ use Rattle.command_parts.specs.declared.refused.Refused.TheVariants.{Turned}
 use Rattle.command_parts.specs.declared.refused.Refused.TheVariants.{Watch, Condition, ManyWatched, NoWord}
 use Rattle.command_parts.specs.declared.refused.Refused.TheVariants.{NoOutcome, NotStuck, NoAnswer, Litmus}
 use Rattle.command_parts.specs.declared.refused.Refused.TheVariants.{NothingToDraw, LongStory}
-use Rattle.command_parts.specs.declared.refused.Unread.{Unread}
 use Rattle.command_parts.specs.declared.refused.Unread.TheVariants as unread
-use Rattle.command_parts.specs.Refused.{refusal_of, IsFirstFailed, AreAccepted, IsImageRefusal, PassesAll}
+use Rattle.command_parts.specs.Refused.{IsImageRefusal, PassesAll}
 use Rattle.command_parts.specs.Inputs.{Read, OfProgram, BehindFile, IsConfigRefusal}
-use Rattle.commands.specs.Explain.{IsExplainRefusal, IsExplanationOf, IsWritingRefusal, ExplainComesTo}
-use Rattle.commands.specs.Explain.{TellsBoth, TellsCheck, PrintsSome}
+use Rattle.commands.specs.Explain.{IsExplainRefusal, ExplainComesTo, TellsBoth, TellsCheck}
+use Rattle.commands.specs.Explain.{IsBehindRefused, TellsFault, TellsWithout}
 use Rattle.commands.specs.Explain.{IsBesideFault}
 use Rattle.commands.specs.Perform.{ExplainLineComesTo, IsExplainLineRefusal, HasToldBeside}
 use Rattle.core_commands.specs.Judgement.{IsJudgementRefusal}
@@ -46,138 +47,93 @@ appended (Some xs) (Some ys) (Some zs) a b first second =
     second ∙ ap (λ us. us ++ b) first ∙ append_assoc xs a b
 
 -- what is said of a configuration, and then of an image
-pub prints_both : (old mid new : Option (List ℕ)) (harts : Option ℕ) (settings : Settings) (file : List ℕ)
-    → Prints old mid (IsConfigTold harts (Some settings)) → Prints mid new (IsAccepted file settings.ram)
+pub prints_both : (old mid new : Option (List ℕ)) (harts : Option ℕ) (config : List ℕ) (settings : Settings)
+    (file : List ℕ) → Prints old mid (IsConfigTold harts config (Some settings))
+    → Prints mid new (IsAccepted file settings.ram)
     → Prints old new (TellsBoth harts settings file)
-prints_both old mid new harts settings file (a, is_a, first) (b, is_b, second) = (
+prints_both old mid new harts config settings file (a, is_a, first) (b, is_b, second) = (
   a ++ b,
   record { said = b; accepted = is_b; whole = ap (λ t. t ++ b) is_a },
   appended old mid new a b first second,
 )
 
--- or the line of a check that it fails
-pub prints_check : (old mid new : Option (List ℕ)) (harts : Option ℕ) (settings : Settings) (number : ℕ)
-    → Prints old mid (IsConfigTold harts (Some settings)) → Prints mid new (Begins (refused_line number))
-    → Prints old new (TellsCheck harts settings number)
-prints_check old mid new harts settings number (a, is_a, first) (b, (rest, is_b), second) = (
+-- or why that is refused
+pub prints_check : (old mid new : Option (List ℕ)) (harts : Option ℕ)
+    (config : List ℕ) (settings : Settings) (file : List ℕ)
+    (number : ℕ) (check : LoadRefused) → number ≡ reason_number check
+    → Prints old mid (IsConfigTold harts config (Some settings))
+    → Prints mid new (IsImageRefusedText file settings.ram check)
+    → Prints old new (TellsCheck harts settings file number)
+prints_check old mid new harts config settings file number check same (a, is_a, first) (b, is_b, second) = (
   a ++ b,
-  (rest, ap (λ t. t ++ b) is_a ∙ ap (λ t. accepted_config (with_harts harts settings) ++ t) is_b),
+  record { check = check; has_number = same; said = b; is_said = is_b; whole = ap (λ t. t ++ b) is_a },
   appended old mid new a b first second,
 )
 
--- a text, and then some more
-pub prints_more : (old mid new : Option (List ℕ)) (head : List ℕ) → Prints old mid (Begins head)
-    → PrintsSome mid new → Prints old new (Begins head)
-prints_more old mid new head (a, (settings, is_a), first) (b, some, second) = (
+-- which fault a configuration has, and behind it what is said of the image
+pub prints_fault : (old mid new : Option (List ℕ)) (config : List ℕ) (image : Read)
+    → Prints old mid (IsConfigRefusedText config) → Prints mid new (IsBehindRefused image)
+    → Prints old new (TellsFault config image)
+prints_fault old mid new config image (a, is_a, first) (b, is_b, second) = (
   a ++ b,
-  (settings ++ b, rw is_a (append_assoc head settings b)),
+  record { first = a; is_first = is_a; behind = b; is_behind = is_b; whole = refl },
   appended old mid new a b first second,
 )
 
-pub prints_twice : (old mid new : Option (List ℕ)) (a : List ℕ) (P : List ℕ → Type 0) → Appends old mid a
-    → Prints mid new P → PrintsSome old new
-prints_twice old mid new a P first (b, is, second) = (a ++ b, tt, appended old mid new a b first second)
+-- the line before the image, and then what is said of it
+pub prints_without : (old mid new : Option (List ℕ)) (file : List ℕ) (ram : ℕ) (check : Option LoadRefused)
+    → ram ≡ default_of key.Ram → IfSome check (IsRefusedBy file ram)
+    → Appends old mid (codes "the image without a configuration:\n") → Prints mid new (IsImageTold file ram check)
+    → Prints old new (TellsWithout file)
+prints_without old mid new file ram check usual fails first (b, is_b, second) = (
+  codes "the image without a configuration:\n" ++ b,
+  record {
+    check = check;
+    fails = subst (λ (n : ℕ). IfSome check (IsRefusedBy file n)) usual fails;
+    said = b;
+    is_said = subst (λ (n : ℕ). IsImageTold file n check b) usual is_b;
+    whole = refl;
+  },
+  appended old mid new _ b first second,
+)
 
 nothing : (old : Option (List ℕ)) → Appends old old []
 nothing None = tt
 nothing (Some xs) = sym (append-nil xs)
 
-pub prints_nothing : (old : Option (List ℕ)) → PrintsSome old old
-prints_nothing old = ([], tt, nothing old)
+pub prints_nothing : (old : Option (List ℕ)) (image : Read) → image ≡ Err unread.File
+    → Prints old old (IsBehindRefused image)
+prints_nothing old image unread =
+    subst (λ (read : Read). Prints old old (IsBehindRefused read)) (sym unread) ([], refl, nothing old)
 
 -- what is said of a configuration, and of an image, once it is known which it is
-pub accepted_line : (harts : Option ℕ) (found : Option Settings) (settings : Settings) (old mid : Option (List ℕ))
-    → found ≡ Some settings → Prints old mid (IsConfigTold harts found)
-    → Prints old mid (IsConfigTold harts (Some settings))
-accepted_line harts found settings old mid is told =
-    subst (λ (f : Option Settings). Prints old mid (IsConfigTold harts f)) is told
+pub accepted_line : (harts : Option ℕ) (config : List ℕ) (found : Option Settings) (settings : Settings)
+    (old mid : Option (List ℕ)) → found ≡ Some settings → Prints old mid (IsConfigTold harts config found)
+    → Prints old mid (IsConfigTold harts config (Some settings))
+accepted_line harts config found settings old mid is told =
+    subst (λ (f : Option Settings). Prints old mid (IsConfigTold harts config f)) is told
 
-pub refused_config_line : (harts : Option ℕ) (found : Option Settings) (old mid : Option (List ℕ)) → found ≡ None
-    → Prints old mid (IsConfigTold harts found) → Prints old mid (Begins (codes "config refused\n"))
-refused_config_line harts found old mid is told =
-    subst (λ (f : Option Settings). Prints old mid (IsConfigTold harts f)) is told
+pub refused_config : (harts : Option ℕ) (config : List ℕ) (found : Option Settings) (old mid : Option (List ℕ))
+    → found ≡ None → Prints old mid (IsConfigTold harts config found) → Prints old mid (IsConfigRefusedText config)
+refused_config harts config found old mid is told =
+    subst (λ (f : Option Settings). Prints old mid (IsConfigTold harts config f)) is told
 
 pub accepted_image_line : (file : List ℕ) (ram : ℕ) (found : Option LoadRefused) (old mid : Option (List ℕ))
     → found ≡ None → Prints old mid (IsImageTold file ram found) → Prints old mid (IsAccepted file ram)
 accepted_image_line file ram found old mid is told =
     subst (λ (f : Option LoadRefused). Prints old mid (IsImageTold file ram f)) is told
 
-pub check_line : (file : List ℕ) (ram : ℕ) (found : Option LoadRefused) (check : LoadRefused) (number : ℕ)
-    (old mid : Option (List ℕ)) → found ≡ Some check → number ≡ reason_number check
-    → Prints old mid (IsImageTold file ram found) → Prints old mid (Begins (refused_line number))
-check_line file ram found check number old mid is same told =
-    let line : Prints old mid (Begins (refused_line (reason_number check))) =
-    subst (λ (f : Option LoadRefused). Prints old mid (IsImageTold file ram f)) is told in
-    subst (λ (n : ℕ). Prints old mid (Begins (refused_line n))) (sym same) line
+pub refused_image : (file : List ℕ) (ram : ℕ) (found : Option LoadRefused) (check : LoadRefused)
+    (old mid : Option (List ℕ)) → found ≡ Some check → Prints old mid (IsImageTold file ram found)
+    → Prints old mid (IsImageRefusedText file ram check)
+refused_image file ram found check old mid is told =
+    subst (λ (f : Option LoadRefused). Prints old mid (IsImageTold file ram f)) is told
 
 -- and what is so of it
 pub configured : (found : Option Settings) (settings : Settings) (config : List ℕ) → found ≡ Some settings
     → IfSome found (IsConfiguration config) → IsConfiguration config settings
 configured found settings config is has =
     subst (λ (f : Option Settings). IfSome f (IsConfiguration config)) is has
-
--- ---- Refusals
-
--- Memory and the output are refused, whatever the files are.
-pub writing_refusal : (harts : Option ℕ) (config : List ℕ) (image : Read) (old new : Option (List ℕ))
-    (reason : Refused) → IsWritingRefusal reason
-    → IsExplainRefusal config image reason × IsExplanationOf harts config reason old new
-writing_refusal harts config image old new (Image number) is = absurd is
-writing_refusal harts config image old new Config is = absurd is
-writing_refusal harts config image old new Harts is = absurd is
-writing_refusal harts config image old new (Script number) is = absurd is
-writing_refusal harts config image old new (Order index) is = absurd is
-writing_refusal harts config image old new (Step index why) is = absurd is
-writing_refusal harts config image old new (Trace line rule) is = absurd is
-writing_refusal harts config image old new Version is = absurd is
-writing_refusal harts config image old new (Event index rule) is = absurd is
-writing_refusal harts config image old new (Prediction index) is = absurd is
-writing_refusal harts config image old new (Register index) is = absurd is
-writing_refusal harts config image old new (NoUnit kind) is = absurd is
-writing_refusal harts config image old new (Limit least) is = absurd is
-writing_refusal harts config image old new (NoHart hart) is = absurd is
-writing_refusal harts config image old new (Lines number fault) is = absurd is
-writing_refusal harts config image old new (NamesNothing option) is = absurd is
-writing_refusal harts config image old new (NamesSeveral option) is = absurd is
-writing_refusal harts config image old new (NeverFetched option) is = absurd is
-writing_refusal harts config image old new (Turned from to) is = absurd is
-writing_refusal harts config image old new (Picture last) is = absurd is
-writing_refusal harts config image old new (Watch why) is = absurd is
-writing_refusal harts config image old new (Litmus place fault) is = absurd is
-writing_refusal harts config image old new NothingToDraw is = absurd is
-writing_refusal harts config image old new (Condition why) is = absurd is
-writing_refusal harts config image old new ManyWatched is = absurd is
-writing_refusal harts config image old new (NoWord address) is = absurd is
-writing_refusal harts config image old new (NoOutcome number) is = absurd is
-writing_refusal harts config image old new NotStuck is = absurd is
-writing_refusal harts config image old new LongStory is = absurd is
-writing_refusal harts config image old new NoAnswer is = absurd is
-writing_refusal harts config image old new Memory is = (tt, tt)
-writing_refusal harts config image old new Thread is = absurd is
-writing_refusal harts config image old new File is = absurd is
-writing_refusal harts config image old new Output is = (tt, tt)
-
--- An image's file that couldn't be read, behind a configuration.
-pub unread_refusal : (harts : Option ℕ) (config : List ℕ) (settings : Settings) (image : Read) (why : Unread)
-    (old new : Option (List ℕ)) → IsConfiguration config settings → image ≡ Err why
-    → IsExplainRefusal config image (refusal_of why) × IsExplanationOf harts config (refusal_of why) old new
-unread_refusal harts config settings image unread.File old new is same = ((settings, is, same), tt)
-unread_refusal harts config settings image unread.Memory old new is same = (tt, tt)
-
--- The check that an image fails first, behind a configuration.
-pub image_refusal : (config : List ℕ) (settings : Settings) (file : List ℕ) (number : ℕ) (check : LoadRefused)
-    → IsConfiguration config settings → IsRefusedBy file settings.ram check → number ≡ reason_number check
-    → IsExplainRefusal config (Ok file) (Image number)
-image_refusal config settings file number check is refused same = (
-  settings,
-  is,
-  record {
-    check = check;
-    is_check = refused.is_check;
-    has_number = same;
-    refusal = refused.refusal;
-  },
-)
 
 -- ---- Of a line
 

@@ -1,6 +1,6 @@
 -- The command `explain`: why a configuration or an image is refused, or what is in it. (This
 -- project's own choice.)
-use Rattle.std.specs.Prelude.{◌≡◌, ℕ, List, ◌++◌, Option, None, Ok, Err, codes}
+use Rattle.std.specs.Prelude.{◌≡◌, ℕ, List, [], ◌++◌, Option, None, Ok, Err, IfSome, codes}
 use Rattle.elf_image.specs.{declared.refusal.LoadRefused.LoadRefused, Refusal.reason_number}
 use Rattle.text_fields.specs.{Printing.Prints}
 use Rattle.elf_image.specs.Image.{ProgramImage}
@@ -9,7 +9,10 @@ use Rattle.scripts.specs.Script.{IsScript, IsFirstMisspelled}
 use Rattle.sim_inputs.specs.{declared.settings.Settings.Settings, declared.line.Beside.Beside}
 use Rattle.sim_inputs.specs.Configuration.{with_harts}
 use Rattle.sim_inputs.specs.declared.line.Beside.TheVariants as beside
-use Rattle.explanations.specs.{Explained.Begins, Explained.IsAccepted, Explained.refused_line}
+use Rattle.sim_inputs.specs.declared.explained.fault.NumberKey.TheVariants as key
+use Rattle.sim_inputs.specs.Explained.{default_of}
+use Rattle.explanations.specs.Explained.{Begins, IsAccepted, IsRefusedBy, IsImageTold}
+use Rattle.explanations.specs.{ConfigRefusal.IsConfigRefusedText, ImageRefusal.IsImageRefusedText}
 use Rattle.explanations.specs.ConfigText.{accepted_config}
 use Rattle.core_commands.specs.{Check.AreHistory, Check.OfEvents, Judgement.IsJudgementRefusal}
 use Rattle.explained_words.specs.Explained.{IsOrderFault, IsFollowed, script_head, order_head}
@@ -45,22 +48,44 @@ pub record TellsBoth (harts : Option ℕ) (settings : Settings) (file text : Lis
   pub accepted : IsAccepted file settings.ram said
   pub whole : text ≡ accepted_config (with_harts harts settings) ++ said
 
--- Or behind that the line of an image that fails the check of this number.
-abbrev pub TellsCheck : Option ℕ → Settings → ℕ → List ℕ → Type 0
-TellsCheck harts settings number text = (rest : List ℕ)
-    × (text ≡ accepted_config (with_harts harts settings) ++ (refused_line number ++ rest))
+-- Or behind that all that is said of an image that fails the check of this number.
+pub record TellsCheck (harts : Option ℕ) (settings : Settings) (file : List ℕ) (number : ℕ) (text : List ℕ)
+    : Type 0 where
+  pub check : LoadRefused
+  pub has_number : number ≡ reason_number check
+  pub said : List ℕ
+  pub is_said : IsImageRefusedText file settings.ram check said
+  pub whole : text ≡ accepted_config (with_harts harts settings) ++ said
 
--- Some text was printed.
-abbrev pub PrintsSome : Option (List ℕ) → Option (List ℕ) → Type 0
-PrintsSome old new = Prints old new (λ text. Unit {0})
+-- Of an image beside a configuration that is refused: all that is said of it with the memory that there is without one;
+-- nothing where it can't be read.
+pub record TellsWithout (file text : List ℕ) : Type 0 where
+  pub check : Option LoadRefused
+  pub fails : IfSome check (IsRefusedBy file (default_of key.Ram))
+  pub said : List ℕ
+  pub is_said : IsImageTold file (default_of key.Ram) check said
+  pub whole : text ≡ codes "the image without a configuration:\n" ++ said
 
--- What was printed before a refusal: that the configuration is refused; or which settings it makes, and the number of
--- the check that the image fails.
-abbrev pub IsExplanationOf : Option ℕ → List ℕ → Refused → Option (List ℕ) → Option (List ℕ) → Type 0
-IsExplanationOf harts config (Image number) old new =
-    OfSettings (Ok config) (λ settings. Prints old new (TellsCheck harts settings number))
-IsExplanationOf harts config Config old new = Prints old new (Begins (codes "config refused\n"))
-IsExplanationOf harts config reason old new = Unit {0}
+abbrev pub IsBehindRefused : Read → List ℕ → Type 0
+IsBehindRefused (Ok file) text = TellsWithout file text
+IsBehindRefused (Err unread.File) text = text ≡ []
+IsBehindRefused (Err unread.Memory) text = ⊥
+
+-- Which fault a configuration has, and that behind it.
+pub record TellsFault (config : List ℕ) (image : Read) (text : List ℕ) : Type 0 where
+  pub first : List ℕ
+  pub is_first : IsConfigRefusedText config first
+  pub behind : List ℕ
+  pub is_behind : IsBehindRefused image behind
+  pub whole : text ≡ first ++ behind
+
+-- What was printed before a refusal: why the configuration is refused, and what there is to say of the image without
+-- it; or which settings it makes, and why the image is refused.
+abbrev pub IsExplanationOf : Option ℕ → List ℕ → Read → Refused → Option (List ℕ) → Option (List ℕ) → Type 0
+IsExplanationOf harts config image (Image number) old new = OfSettings (Ok config)
+    (λ settings. OfFile image (λ file. Prints old new (TellsCheck harts settings file number)))
+IsExplanationOf harts config image Config old new = Prints old new (TellsFault config image)
+IsExplanationOf harts config image reason old new = Unit {0}
 
 -- What the command comes to: both are accepted, it says what is in them, and the exit status is 0.
 pub record ExplainComesTo (harts : Option ℕ) (config image : Read) (old new : Option (List ℕ)) (exit_status : ℕ)

@@ -8,7 +8,7 @@ ghost use Rattle.explanations.specs.Explained.{IsConfigTold, IsImageTold, IsRefu
 ghost use Rattle.command_parts.specs.declared.refused.Refused.TheVariants.{Output};
 ghost use Rattle.command_parts.specs.Inputs.{as_read, IsNoConfiguration};
 ghost use Rattle.commands.specs.Explain.{IsExplainRefusal, IsExplanationOf, ExplainComesTo};
-ghost use Rattle.commands.specs.Explain.{IsWritingRefusal, PrintsSome};
+ghost use Rattle.commands.specs.Explain.{IsWritingRefusal, IsBehindRefused, TellsWithout};
 
 use command_parts::{Refused, Unread};
 use elf_image::{LoadRefused, RamSize};
@@ -37,7 +37,8 @@ pub fn perform_explain<W: Write>(
 ) -> Result<u8, Refused>
     ensures refused { IfErr result (IsExplainRefusal config.now (as_read image.entry)) }
     ensures explained { IfErr result
-        (λ reason. IsExplanationOf harts.now config.now reason (W.contents out.old) (W.contents out.new)) }
+        (λ reason. IsExplanationOf harts.now config.now (as_read image.entry) reason (W.contents out.old)
+        (W.contents out.new)) }
     ensures ended { IfOk result (ExplainComesTo harts.now (Ok config.now) (as_read image.entry)
         (W.contents out.old) (W.contents out.new)) }
 {
@@ -64,7 +65,7 @@ fn tell_config<W: Write>(
     ensures accepted { IfOk result (λ settings. IfSome settings (IsConfiguration config.now)) }
     ensures none { IfOk result (λ settings. IfNone settings (IsNoConfiguration config.now)) }
     ensures printed { IfOk result (λ settings.
-        Prints (W.contents out.old) (W.contents out.new) (IsConfigTold harts.now settings)) }
+        Prints (W.contents out.old) (W.contents out.new) (IsConfigTold harts.now config.now settings)) }
 {
     match explain_config(config, *harts, alloc) {
         Ok(said) => {
@@ -105,13 +106,21 @@ fn tell_without_config<W: Write>(
     alloc: Global,
 ) -> Result<(), Refused>
     ensures refused { IfErr result IsWritingRefusal }
-    ensures printed { OnOk result (PrintsSome (W.contents out.old) (W.contents out.new)) }
+    ensures printed { OnOk result
+        (Prints (W.contents out.old) (W.contents out.new) (IsBehindRefused (as_read image.entry))) }
 {
-    let file = match image {
-        Ok(file) => file,
-        Err(Unread::File) => return Ok(()),
-        Err(Unread::Memory) => return Err(Refused::Memory),
-    };
+    match image {
+        Ok(file) => tell_alone(file, out, alloc),
+        Err(Unread::File) => Ok(()),
+        Err(Unread::Memory) => Err(Refused::Memory),
+    }
+}
+
+/// Says what there is to say of an image with the memory that it has without a configuration.
+fn tell_alone<W: Write>(file: &[u8], out: &mut W, alloc: Global) -> Result<(), Refused>
+    ensures refused { IfErr result IsWritingRefusal }
+    ensures printed { OnOk result (Prints (W.contents out.old) (W.contents out.new) (TellsWithout file.now)) }
+{
     put(WITHOUT_CONFIG, out)?;
     tell_image(file, Settings::default().ram, out, alloc)?;
     Ok(())

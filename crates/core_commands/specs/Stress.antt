@@ -40,10 +40,11 @@ stress_status watch (Some question) tally = status_of_answer (sampled_answer wat
 
 -- What the command comes to. No role is without an actor. What the question and the list ask for is watched, and is
 -- there. There are the cores of so many runs, the newest first, each of which was made for this (`Made`). Where that is
--- wanted, the core with which an end came first is kept in the files of that end (`Kept`). What was printed is the table of their ends, each with what is watched
--- of it, and the answer; the exit status goes with that.
+-- wanted, the core with which an end came first is kept in the files of that end (`Kept`). What was printed is the
+-- table of their ends, each with what is watched of it, and the answer; the exit status goes with that.
 pub record StressComesTo (settings : Settings) (image : ProgramImage) (names : Table) (run : RunCommand) (times : ℕ)
-    (Made : List CoreView → Type 0) (Kept : Watch → List CoreView → Type 0) (old new : Option (List ℕ)) (exit_status : ℕ) : Type 0 where
+    (Made : List CoreView → Type 0) (Kept : Watch → List CoreView → Type 0) (old new : Option (List ℕ))
+    (exit_status : ℕ) : Type 0 where
   pub accepted : AreAccepted settings
   pub manned : LackARole settings → ⊥
   pub question : Option Question
@@ -101,8 +102,8 @@ pub record HasRunOnce (settings : Settings) (image : ProgramImage) (watch : Watc
   pub counted : Counts (end_of watch core) old new
   pub kept : Kept old.rows core
 
--- What is put into a sink, where the ends are to be kept, of a program with these names: of the runs of these cores, and
--- of one more behind others with these rows.
+-- What is put into a sink, where the ends are to be kept, of a program with these names: of the runs of these cores,
+-- and of one more behind others with these rows.
 abbrev pub AreEndsWritten : {S : Type 0} → (S → ℕ → Part → S → Type 0) → (S → Option (List ℕ)) → (S → Bool)
     → S → S → Bool → Table → Watch → List CoreView → Type 0
 AreEndsWritten begins written has_failed old new true names watch cores =

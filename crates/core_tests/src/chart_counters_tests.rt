@@ -130,16 +130,11 @@ fn are_of(counts: &[u32], two: [u32; 2]) -> bool {
 fn counted(from: u32, to: u32, alloc: Global) -> Option<Vec<Counters>> {
     let image = overtaken_image(alloc)?;
     let events = overtaken_events(alloc)?;
-    check(&image, overtaken_config(), events.as_slice(), alloc).ok()?;
-    counters_of(
-        &image,
-        overtaken_config(),
-        events.as_slice(),
-        from,
-        to,
-        alloc,
-    )
-    .ok()
+    let config = overtaken_config();
+    match check(&image, config.copied(), events.as_slice(), alloc) {
+        Ok(_) => counters_of(&image, config, events.as_slice(), from, to, alloc).ok(),
+        Err(_) => None,
+    }
 }
 
 #[test]

@@ -4,7 +4,7 @@ use Rattle.sim_inputs.specs.{declared.settings.Settings.Settings, Configuration.
 use Rattle.sim_inputs.specs.declared.explained.fault.ConfigFault.{ConfigFault}
 use Rattle.sim_inputs.specs.declared.explained.fault.ConfigFault.TheVariants as faults
 use Rattle.sim_inputs.specs.Explained.{IsNoConfiguration}
-use Rattle.explanations.specs.Explained.{IsTold}
+use Rattle.explanations.specs.ConfigRefusal.{IsTold}
 
 pub refused : (text : List ℕ) (fault : ConfigFault) → IsNoConfiguration text fault → IsTold fault
     → (settings : Settings) → IsConfiguration text settings → ⊥

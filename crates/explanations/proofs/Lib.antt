@@ -1,4 +1,6 @@
 mod Checks
 mod Ends
+mod EnoughRam
 mod Faults
+mod Nearest
 mod Printed

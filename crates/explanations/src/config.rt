@@ -1,11 +1,12 @@
 //! What is said of a configuration.
 
-ghost use Rattle.std.specs.Prelude.{◌≡◌, IfOk, OnOk, codes};
+ghost use Rattle.std.specs.Prelude.{◌≡◌, IfOk};
 ghost use Rattle.sim_inputs.specs.Configuration.{with_harts};
 ghost use Rattle.explanations.specs.ConfigText.{accepted_config};
-ghost use Rattle.explanations.specs.Explained.{Begins, IsConfigExplained, IsTold};
+ghost use Rattle.explanations.specs.Explained.{IsConfigExplained};
+ghost use Rattle.explanations.specs.ConfigRefusal.{IsFaultText};
 
-use crate::config_fault::write_config_fault;
+use crate::config_fault::{hint_for, write_config_fault};
 use crate::lines::joined;
 use crate::settings_text::write_settings;
 use sim_inputs::{ConfigFault, HartCount, Settings, read_config_or_fault};
@@ -63,12 +64,13 @@ fn accepted_text(
 }
 
 /// What is said where it is refused for this fault. Fails for want of memory, which is none.
+#[tactic(auto, using(crate::proofs::Printed::told_fault))]
 fn refused_text(fault: &ConfigFault, text: &[u8], alloc: Global) -> Result<Vec<u8>, AllocError>
-    ensures told { OnOk result (IsTold fault.now) }
-    ensures begins { IfOk result (λ text. Begins (codes "config refused\n") text.items) }
+    ensures { IfOk result (λ said. IsFaultText text.now fault.now said.items) }
 {
+    let meant = hint_for(fault, alloc)?;
     let mut rest = Vec::new(alloc);
-    match write_config_fault(fault, text, &mut rest, alloc) {
+    match write_config_fault(fault, text, meant, &mut rest) {
         Ok(()) => joined(b"config refused\n", &rest, alloc),
         Err(_) => Err(AllocError),
     }

@@ -1,103 +1,114 @@
-//! Why a file is no image, where that stands in its file header.
+//! What stands in a file header that fails a check.
 
-ghost use Rattle.std.specs.Prelude.{◌≤◌, length};
+ghost use Rattle.std.specs.Prelude.{OnOk, flat_map};
+ghost use Rattle.std.specs.Io.KnownBytes.{Appends};
+ghost use Rattle.explanations.specs.ImageRefusal.{length_line, byte_text};
+ghost use Rattle.explanations.specs.ImageRefusal.{first_bytes_lead, first_bytes_line, byte_line};
+ghost use Rattle.explanations.specs.ImageRefusal.{version_line, type_line, machine_line, header_sizes_line, table_line};
 
-use elf_image::{LoadRefused, read_half, read_word};
 use std::io;
 use std::io::Write;
 
-/// Writes the lines of a file that is too short for a file header.
-pub(crate) fn write_too_short<W: Write>(file: &[u8], out: &mut W) -> io::Result<()> {
-    writeln!(out, "{}", LoadRefused::TooShort)?;
-    writeln!(out, "the file has {} bytes", file.len())?;
-    out.write_all(b"usually: an empty file, or another one than the linked program\n")
+/// Writes how many bytes the file has.
+#[tactic(auto, unfolding(crate::specs::ImageRefusal::length_line))]
+pub(crate) fn write_length<W: Write>(bytes: usize, out: &mut W) -> io::Result<()>
+    ensures { OnOk result (Appends (W.contents out.old) (W.contents out.new) (length_line bytes)) }
+{
+    writeln!(out, "the file has {bytes} bytes")
 }
 
-/// Writes the lines of a check that a file header fails.
-pub(crate) fn write_file_fault<W: Write>(
-    file: &[u8],
-    check: LoadRefused,
-    out: &mut W,
-) -> io::Result<()>
-    requires { 52 ≤ length file.now }
+/// Writes the file's first bytes, in hexadecimal digits.
+pub(crate) fn write_first_bytes<W: Write>(bytes: &[u8], out: &mut W) -> io::Result<()>
+    ensures { OnOk result (Appends (W.contents out.old) (W.contents out.new) (first_bytes_line bytes.now)) }
 {
-    writeln!(out, "{check}")?;
-    write_found(file, check, out)?;
-    out.write_all(mended(check).as_bytes())
-}
-
-/// Writes what stands in the fields that the check looks at.
-fn write_found<W: Write>(file: &[u8], check: LoadRefused, out: &mut W) -> io::Result<()>
-    requires { 52 ≤ length file.now }
-{
-    match check {
-        LoadRefused::NotElf => write_first_bytes(file, out),
-        LoadRefused::NotClass32 => writeln!(out, "byte 4 is {}", file[4]),
-        LoadRefused::NotLittleEndian => writeln!(out, "byte 5 is {}", file[5]),
-        LoadRefused::WrongVersion => {
-            writeln!(
-                out,
-                "byte 6 is {}, the version {}",
-                file[6],
-                read_word(file, 20)
-            )
-        }
-        LoadRefused::NotExecutable => writeln!(out, "the type is {}", read_half(file, 16)),
-        LoadRefused::NotRiscV => writeln!(out, "the machine is {}", read_half(file, 18)),
-        LoadRefused::WrongHeaderSize => write_header_sizes(file, out),
-        _ => write_table(file, out),
-    }
-}
-
-fn write_first_bytes<W: Write>(file: &[u8], out: &mut W) -> io::Result<()>
-    requires { 52 ≤ length file.now }
-{
-    out.write_all(b"the first bytes are")?;
-    for byte in &file[..4] {
-        write!(out, " {byte:02x}")?;
-    }
+    write_first_lead(out)?;
+    write_bytes(bytes, out)?;
     out.write_all(b"\n")
 }
 
-fn write_header_sizes<W: Write>(file: &[u8], out: &mut W) -> io::Result<()>
-    requires { 52 ≤ length file.now }
+#[tactic(auto, unfolding(crate::specs::ImageRefusal::first_bytes_lead))]
+fn write_first_lead<W: Write>(out: &mut W) -> io::Result<()>
+    ensures { OnOk result (Appends (W.contents out.old) (W.contents out.new) first_bytes_lead) }
 {
-    let (file_header, program_header) = (read_half(file, 40), read_half(file, 42));
+    out.write_all(b"the first bytes are")
+}
+
+fn write_bytes<W: Write>(bytes: &[u8], out: &mut W) -> io::Result<()>
+    ensures { OnOk result (Appends (W.contents out.old) (W.contents out.new) (flat_map byte_text bytes.now)) }
+{
+    for byte in bytes {
+        write_hex(*byte, out)?;
+    }
+    Ok(())
+}
+
+#[tactic(auto, unfolding(crate::specs::ImageRefusal::byte_text))]
+fn write_hex<W: Write>(byte: u8, out: &mut W) -> io::Result<()>
+    ensures { OnOk result (Appends (W.contents out.old) (W.contents out.new) (byte_text byte)) }
+{
+    write!(out, " {byte:02x}")
+}
+
+/// Writes the byte at a place.
+#[tactic(auto, unfolding(crate::specs::ImageRefusal::byte_line))]
+pub(crate) fn write_byte<W: Write>(place: u8, byte: u8, out: &mut W) -> io::Result<()>
+    ensures { OnOk result (Appends (W.contents out.old) (W.contents out.new) (byte_line place byte)) }
+{
+    writeln!(out, "byte {place} is {byte}")
+}
+
+/// Writes the two fields that have a version.
+#[tactic(auto, unfolding(crate::specs::ImageRefusal::version_line))]
+pub(crate) fn write_version<W: Write>(byte: u8, version: u32, out: &mut W) -> io::Result<()>
+    ensures { OnOk result (Appends (W.contents out.old) (W.contents out.new) (version_line byte version)) }
+{
+    writeln!(out, "byte 6 is {byte}, the version {version}")
+}
+
+/// Writes the file's type.
+#[tactic(auto, unfolding(crate::specs::ImageRefusal::type_line))]
+pub(crate) fn write_type<W: Write>(kind: u16, out: &mut W) -> io::Result<()>
+    ensures { OnOk result (Appends (W.contents out.old) (W.contents out.new) (type_line kind)) }
+{
+    writeln!(out, "the type is {kind}")
+}
+
+/// Writes the machine that the file is for.
+#[tactic(auto, unfolding(crate::specs::ImageRefusal::machine_line))]
+pub(crate) fn write_machine<W: Write>(machine: u16, out: &mut W) -> io::Result<()>
+    ensures { OnOk result (Appends (W.contents out.old) (W.contents out.new) (machine_line machine)) }
+{
+    writeln!(out, "the machine is {machine}")
+}
+
+/// Writes how large the headers are.
+#[tactic(auto, unfolding(crate::specs::ImageRefusal::header_sizes_line))]
+pub(crate) fn write_header_sizes<W: Write>(
+    file_header: u16,
+    program_header: u16,
+    out: &mut W,
+) -> io::Result<()>
+    ensures { OnOk result (Appends (W.contents out.old) (W.contents out.new)
+        (header_sizes_line file_header program_header)) }
+{
     writeln!(
         out,
         "the file header has {file_header} bytes, a program header {program_header}"
     )
 }
 
-fn write_table<W: Write>(file: &[u8], out: &mut W) -> io::Result<()>
-    requires { 52 ≤ length file.now }
+/// Writes where the table of program headers is, and in a file of how many bytes.
+#[tactic(auto, unfolding(crate::specs::ImageRefusal::table_line))]
+pub(crate) fn write_table<W: Write>(
+    offset: u32,
+    count: u16,
+    bytes: usize,
+    out: &mut W,
+) -> io::Result<()>
+    ensures { OnOk result (Appends (W.contents out.old) (W.contents out.new) (table_line offset count bytes)) }
 {
-    let (offset, count) = (read_word(file, 28), read_half(file, 44));
     writeln!(
         out,
-        "the table is at {offset}, of {count} headers; the file has {} bytes",
-        file.len()
+        "the table is at {offset}, of {count} headers; the file has {bytes} bytes"
     )
-}
-
-/// What was expected, and what usually mends it.
-fn mended(check: LoadRefused) -> &'static str {
-    match check {
-        LoadRefused::NotElf => "expected: 7f 45 4c 46\n\
-            usually: a source, or what objcopy made of it: take what the linker has written\n",
-        LoadRefused::NotClass32 => "expected: 1, for 32 bits\n\
-            usually: compiled for this machine, or for RV64: `-march=rv32ima -mabi=ilp32`\n",
-        LoadRefused::NotLittleEndian => "expected: 1, for little-endian\n\
-            usually: compiled for this machine: take a cross compiler for RISC-V\n",
-        LoadRefused::WrongVersion => "expected: 1 and 1\n\
-            usually: the file is damaged: link the program again\n",
-        LoadRefused::NotExecutable => "expected: 2, an executable\n\
-            usually: 1 is an object file: link it; 3 is for any address: link without `-pie`\n",
-        LoadRefused::NotRiscV => "expected: 243, RISC-V\n\
-            usually: compiled for this machine: take a cross compiler for RISC-V\n",
-        LoadRefused::WrongHeaderSize => "expected: 52 and 32\n\
-            usually: the file is damaged: link the program again\n",
-        _ => "expected: all of the table, 32 bytes a header, within the file\n\
-            usually: the file was cut: link the program again\n",
-    }
 }

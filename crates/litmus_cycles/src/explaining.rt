@@ -21,8 +21,9 @@ use std::alloc::{AllocError, Global};
 ///
 /// A candidate gives each hart a run of at most 200 steps and all of them together at most 32 accesses, each read
 /// a write of its number, and the writes of each location an order. What doesn't fit, what accesses anything else
-/// than the word of a location, and what comes behind a million choices that something may come of, or behind 10,000
-/// candidates that fit, isn't looked at, which `is_whole` tells. Errors: want of memory.
+/// than the word of a location, and what comes behind two million choices of ways, of some harts or of all, behind a
+/// million choices that something may come of, or behind 10,000 candidates that fit, isn't looked at, which `is_whole`
+/// tells. Errors: want of memory.
 pub fn explain_forbidden<O: ChoiceOnlooker>(
     test: &LitmusTest,
     onlooker: &O,

@@ -12,7 +12,7 @@ use std::io::Write;
 use text_fields::push_decimal;
 
 /// How many states a search has found.
-#[derive(Clone, Copy, Debug, PartialEq, Eq, Drop)]
+#[derive(Clone, Copy, Drop)]
 pub enum StateCount {
     /// So many.
     Exactly(u64),
@@ -22,7 +22,7 @@ pub enum StateCount {
 
 /// How many states a search has found, and of each reduction that it uses how many one has found that leaves it out as
 /// well. There is none of a reduction that the search itself leaves out.
-#[derive(Clone, Copy, Debug, PartialEq, Eq, Drop)]
+#[derive(Clone, Copy, Drop)]
 pub struct How {
     pub states: StateCount,
     /// Of the one without `RX`.

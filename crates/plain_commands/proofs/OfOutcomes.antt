@@ -13,6 +13,8 @@ use Rattle.outcomes.specs.{Found.Found}
 use Rattle.watched_outcomes.specs.{declared.watch.Watch.Watch}
 use Rattle.sim_inputs.specs.{declared.settings.Settings.Settings}
 use Rattle.sim_inputs.specs.{declared.line.OutcomesCommand.OutcomesCommand}
+use Rattle.sim_inputs.specs.declared.line.QuestionText.{QuestionText}
+use Rattle.sim_inputs.specs.declared.line.QuestionText.TheVariants as texts
 use Rattle.command_parts.specs.declared.refused.Refused.{Refused}
 use Rattle.command_parts.specs.declared.refused.Refused.TheVariants as reason
 use Rattle.symbols.specs.Tables.{Table}
@@ -24,7 +26,7 @@ use Rattle.outcome_queries.specs.{declared.term.Term.Term, Harts.IsHartThere}
 use Rattle.std.specs.List.{All}
 use Rattle.outcome_text.specs.{declared.how.How.How}
 use Rattle.plain_commands.specs.How.{IsHowOf}
-use Rattle.plain_commands.specs.Questions.{IsQuestionOf, terms_asked}
+use Rattle.plain_commands.specs.Questions.{IsConditionRefused, IsQuestionOf, IsTextRefused, terms_asked}
 use Rattle.plain_commands.specs.WrittenOrders.{line_wanted, order_wanted, wants_order}
 use Rattle.sim_inputs.specs.Files.{written_of_outcomes, written_order}
 use Rattle.plain_commands.specs.Outcomes.{HasPutText, HasPutWanted, HasTold, HasToldFound, IsAsked, IsDrawnFor, IsWhyOf}
@@ -169,6 +171,32 @@ order_step old mid new order i d inside first next =
     let more : order_text (take (i + 1) order) ≡ order_text (take i order) ++ order_line (get_or order i d) =
     ap order_text (take_more order i d inside) ∙ sym (flat_map_more order_line [] (take i order) (get_or order i d)) in
     subst (λ t. Appends old new t) (sym more) (appends_more old mid new _ _ first next)
+
+-- A condition is refused for what it says, or for want of memory.
+abbrev IsOfCondition : Refused → Type 0
+IsOfCondition (reason.Condition why) = Unit {0}
+IsOfCondition reason.Memory = Unit {0}
+IsOfCondition _ = ⊥
+
+of_text : (names : Table) (text : List ℕ) (why : Refused) → IsTextRefused names text why → IsOfCondition why
+of_text names text (reason.Condition why) is = tt
+of_text names text reason.Memory is = tt
+of_text names text _ is = absurd is
+
+of_condition : (names : Table) (question : Option QuestionText) (why : Refused)
+    → IsConditionRefused names question why → IsOfCondition why
+of_condition names (Some (texts.Exists text)) why is = of_text names text.now why is
+of_condition names (Some (texts.ForAll text)) why is = of_text names text.now why is
+of_condition names (Some (texts.Never text)) why is = of_text names text.now why is
+of_condition names (Some texts.NeverStuck) why is = absurd is
+of_condition names None why is = absurd is
+
+-- What is refused of a condition is refused of the command.
+pub condition_refused : (settings : Settings) (image : ProgramImage) (names : Table) (command : OutcomesCommand)
+    (why : Refused) → IsConditionRefused names command.question why → IsOutcomesRefusal settings image names command why
+condition_refused settings image names command (reason.Condition why) is = is
+condition_refused settings image names command reason.Memory is = tt
+condition_refused settings image names command _ is = absurd (of_condition names command.question _ is)
 
 -- What is asked, and what is watched for it.
 pub asks_so : (settings : Settings) (names : Table) (command : OutcomesCommand) (question : Option Question)

@@ -32,7 +32,10 @@ pub(crate) fn sides_of(sheet: &Sheet<'_>, number: usize, band: &Band) -> Option<
     let store = chart.events.get(place as usize)?.seq();
     let (load, writer) = (chart.placed.get(number)?, chart.placed.get(store as usize)?);
     let (store_column, load_column) = (writer.retired?, load.retired?);
-    let whole = Band { from: chart.view.from, to: chart.view.to };
+    let whole = Band {
+        from: chart.view.from,
+        to: chart.view.to,
+    };
     let are_drawn = chart.view.shows(load) && chart.view.shows(writer);
     if !(are_drawn && whole.has(writer.retired) && whole.has(load.retired)) {
         return None;
@@ -91,7 +94,11 @@ fn write_from_store<W: Write>(
         .saturating_sub(COLUMN / 2);
     let x = from.saturating_add(COLUMN / 2).min(to);
     let ring = middle_of_row(sheet, band, first, load, top);
-    let end = if ring < y { ring.saturating_add(5) } else { ring.saturating_sub(5) };
+    let end = if ring < y {
+        ring.saturating_add(5)
+    } else {
+        ring.saturating_sub(5)
+    };
     write!(out, "<path class=\"arrow\" marker-end=\"url(#point)\" ")?;
     writeln!(out, "d=\"M{x} {y}H{to}V{end}\"/>")
 }
@@ -108,7 +115,10 @@ pub(crate) fn write_stub<W: Write>(store: Seq, x: u32, y: u32, out: &mut W) -> i
     let (text, base) = (x.saturating_add(28), y.saturating_add(4));
     write!(out, "<path class=\"arrow\" marker-end=\"url(#point)\" ")?;
     writeln!(out, "d=\"M{tail} {y}H{end}\"/>")?;
-    writeln!(out, "<text class=\"x\" x=\"{text}\" y=\"{base}\">from {store}</text>")?;
+    writeln!(
+        out,
+        "<text class=\"x\" x=\"{text}\" y=\"{base}\">from {store}</text>"
+    )?;
     let letters = u32::from(digits_of(store as usize)).saturating_add(6);
     Ok(text.saturating_add(letters.saturating_mul(CHARACTER)))
 }

@@ -74,7 +74,10 @@ fn write_fill<W: Write>(
 ) -> io::Result<()> {
     let width = end.saturating_sub(x);
     let pale = if is_pale { " pale" } else { "" };
-    write!(out, "<rect class=\"bar{pale} h{hart}\" x=\"{x}\" y=\"{y}\" ")?;
+    write!(
+        out,
+        "<rect class=\"bar{pale} h{hart}\" x=\"{x}\" y=\"{y}\" "
+    )?;
     writeln!(out, "width=\"{width}\" height=\"{HEIGHT}\"/>")
 }
 

@@ -71,12 +71,7 @@ fn write_pcs<W: Write>(cause: Cause, out: &mut W) -> io::Result<()> {
 }
 
 /// Writes what a load that retired found as it looked again, and which store wrote in between.
-fn write_looks<W: Write>(
-    row: &Row,
-    events: &[Event],
-    rows: &[Row],
-    out: &mut W,
-) -> io::Result<()> {
+fn write_looks<W: Write>(row: &Row, events: &[Event], rows: &[Row], out: &mut W) -> io::Result<()> {
     let Some(place) = store_between(events, row) else {
         return Ok(());
     };
@@ -106,7 +101,10 @@ fn write_writer<W: Write>(
         return Ok(());
     };
     let hart = row.hart;
-    write!(out, "\nnumber {number} of hart {hart} wrote at event {place}")
+    write!(
+        out,
+        "\nnumber {number} of hart {hart} wrote at event {place}"
+    )
 }
 
 fn write_value<W: Write>(value: Option<u32>, out: &mut W) -> io::Result<()> {

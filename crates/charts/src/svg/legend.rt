@@ -22,10 +22,11 @@ const HART: u32 = 78;
 /// How many lines stand below the harts, without that of counters, and how wide they are.
 const LINES: u32 = 7;
 
-const WIDTH: u32 = 700;
+const WIDTH: u32 = 740;
 
 /// What letters and marks mean: from the top of the first of the lines on.
-const MARKS: &[u8] = b"<text class=\"far\" x=\"12\" y=\"14\"><tspan class=\"key\">F</tspan> fetched</text>
+const MARKS: &[u8] =
+    b"<text class=\"far\" x=\"12\" y=\"14\"><tspan class=\"key\">F</tspan> fetched</text>
 <text class=\"far\" x=\"104\" y=\"14\"><tspan class=\"key\">D</tspan> decoded</text>
 <text class=\"far\" x=\"196\" y=\"14\"><tspan class=\"key\">R</tspan> renamed</text>
 <text class=\"far\" x=\"288\" y=\"14\"><tspan class=\"key\">I</tspan> issued</text>
@@ -62,7 +63,11 @@ const COUNTERS_LINE: u32 = 154;
 
 /// The height of the legend.
 pub(crate) fn legend_height(chart: &Chart<'_>, form: &PictureForm<'_>) -> u32 {
-    let below = if form.counters.is_empty() { LINES } else { LINES + 1 };
+    let below = if form.counters.is_empty() {
+        LINES
+    } else {
+        LINES + 1
+    };
     hart_lines(chart)
         .saturating_add(below)
         .saturating_mul(LINE)
@@ -111,11 +116,7 @@ pub(crate) fn write_legend<W: Write>(
 }
 
 /// Writes what stands at the left of a row.
-fn write_left<W: Write>(
-    chart: &Chart<'_>,
-    form: &PictureForm<'_>,
-    out: &mut W,
-) -> io::Result<()> {
+fn write_left<W: Write>(chart: &Chart<'_>, form: &PictureForm<'_>, out: &mut W) -> io::Result<()> {
     write!(out, "<text class=\"far\" x=\"{MARGIN}\" y=\"{LEFT_LINE}\">")?;
     out.write_all(b"at the left: hart, number, pc, instruction")?;
     if !chart.labels.are_none() {

@@ -40,12 +40,7 @@ pub(crate) struct Page {
 
 impl Page {
     /// The page of a chart in bands of so many columns.
-    pub fn of(
-        chart: &Chart<'_>,
-        form: &PictureForm<'_>,
-        columns: u32,
-        widths: &Widths,
-    ) -> Page
+    pub fn of(chart: &Chart<'_>, form: &PictureForm<'_>, columns: u32, widths: &Widths) -> Page
         requires { 0 < columns }
     {
         let left = width_of(widths.name()).saturating_add(MARGIN);
@@ -57,7 +52,9 @@ impl Page {
         Page {
             left,
             first,
-            width: width.max(heading_width(chart, form)).max(legend_width(form)),
+            width: width
+                .max(heading_width(chart, form))
+                .max(legend_width(form)),
             height: first.saturating_add(bands_height(chart, form, columns)),
         }
     }

@@ -94,7 +94,14 @@ fn write_second_look<W: Write>(
     write_ring("again", x, y, out)?;
     let (base, free) = (top.saturating_add(13), x.saturating_add(12));
     match sides_of(sheet, number, band) {
-        Some(Sides { store, is_store_here: false, is_load_here: true, .. }) => {
+        Some(
+            Sides {
+                store,
+                is_store_here: false,
+                is_load_here: true,
+                ..
+            },
+        ) => {
             let free = write_stub(store, x, y, out)?;
             write_label("x", free, base, "replayed", out)
         }

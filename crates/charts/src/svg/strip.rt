@@ -23,7 +23,10 @@ pub(crate) fn write_strip<W: Write>(
     out.write_all(b"<g><title>")?;
     write_hover(sheet, number, out)?;
     out.write_all(b"</title>\n")?;
-    write!(out, "<text xml:space=\"preserve\" x=\"{MARGIN}\" y=\"{base}\">")?;
+    write!(
+        out,
+        "<text xml:space=\"preserve\" x=\"{MARGIN}\" y=\"{base}\">"
+    )?;
     sheet.widths.write_name(placed, number, sheet.named, out)?;
     out.write_all(b"</text>\n")?;
     write_bar(placed, &sheet.chart.view, band, &sheet.page, top, out)?;

@@ -4,7 +4,8 @@ ghost use Rattle.std.specs.Prelude.{◌≡◌, ◌∷◌, [], OnOk};
 ghost use Rattle.std.specs.Io.KnownBytes.{Appends};
 ghost use Rattle.address_labels.specs.Labels.{marks_of};
 ghost use Rattle.chart_rows.specs.Cells.{letter_at};
-ghost use Rattle.charts.specs.Text.{by_text, cells_text, line_text, remark_text, replayed_text};
+ghost use Rattle.charts.specs.Text.{by_text, cells_text, line_text, remark_text, replayed_text, squashed_text};
+ghost use Rattle.address_labels.specs.declared.writing.Form.TheVariants.{Word};
 
 use crate::label::{Named, Widths};
 use arrayvec::ArrayString;
@@ -23,6 +24,9 @@ pub(crate) fn write_line<W: Write>(
     named: Named<'_>,
     out: &mut W,
 ) -> io::Result<()>
+    requires { named.form ≡ Word }
+    ensures { OnOk result (Appends (W.contents out.old) (W.contents out.new)
+        (line_text widths.now (marks_of named.entry.labels.now) named.entry.registers.now band.now number row.now)) }
 {
     widths.write_name(row, number, named, out)?;
     write_cells(row, band, out)?;
@@ -60,6 +64,7 @@ fn write_remark<W: Write>(row: &Row, band: &Band, out: &mut W) -> io::Result<()>
 
 /// What squashed a row in this band: its own refetch, or the event of another instruction.
 fn write_squashed<W: Write>(row: &Row, band: &Band, out: &mut W) -> io::Result<()>
+    ensures { OnOk result (Appends (W.contents out.old) (W.contents out.new) (squashed_text band.now row.now)) }
 {
     if row.refetched.is_none() {
         return write_by(row, band, out);

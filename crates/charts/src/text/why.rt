@@ -1,5 +1,23 @@
 //! Under a band the lines that say why rows were squashed in it.
 
+ghost use Rattle.std.specs.Prelude.{◌≡◌, ◌++◌, OnOk, codes, find, if◌then◌else◌};
+ghost use Rattle.std.specs.Fmt.{decimal};
+ghost use Rattle.std.specs.Io.KnownBytes.{Appends};
+ghost use Rattle.text_fields.specs.Spelling.{hex};
+ghost use Rattle.chart_rows.specs.Order.{AreByFetch, AreOver};
+ghost use Rattle.chart_rows.specs.declared.cause.Cause.TheVariants.{Mispredicted};
+ghost use Rattle.charts.specs.Drawings.{drawing_of};
+ghost use Rattle.charts.specs.Text.{whys_text};
+ghost use Rattle.charts.specs.Whys.{
+  cause_text,
+  is_cross,
+  is_crossed,
+  is_shown_crossed,
+  reason_text,
+  squash_text,
+  why_text,
+};
+
 use crate::text::TextChart;
 use arrayvec::ArrayString;
 use chart_rows::{Band, Cause, Cell, Row, Squash, View};
@@ -14,56 +32,80 @@ pub(crate) fn write_whys<W: Write>(
     first: usize,
     band: &Band,
     out: &mut W,
-) -> io::Result<()> {
-    let (from, to) = (chart.columns.head(band.from), chart.columns.last(band.to));
+) -> io::Result<()>
+    ensures { OnOk result (AreByFetch chart.now.rows.now → AreOver chart.now.rows.now first band.now.from
+        → Appends (W.contents out.old) (W.contents out.new) (whys_text (drawing_of chart.now) band.now)) }
+{
+    let shown = chart.view.within(band);
+    let from = chart.columns.head(band.from);
+    let to = chart.columns.last(band.to);
     for place in from..=to {
-        write_why(chart, first, band, place, out)?;
+        write_why(chart, first, &shown, place, out)?;
     }
     Ok(())
 }
 
-/// Writes why the event at a place squashed the first row which is drawn in this band, where there is such a row.
+/// Writes why the event at a place squashed the first row which is drawn, where there is such a row.
+#[tactic(auto, unfolding(crate::specs::Whys::why_text))]
 fn write_why<W: Write>(
     chart: &TextChart<'_>,
     first: usize,
-    band: &Band,
+    shown: &View,
     place: u32,
     out: &mut W,
-) -> io::Result<()> {
+) -> io::Result<()>
+    ensures { OnOk result (AreByFetch chart.now.rows.now → AreOver chart.now.rows.now first shown.now.from
+        → Appends (W.contents out.old) (W.contents out.new)
+        (why_text chart.now.rows.now chart.now.events.now shown.now chart.now.columns.now place)) }
+{
     let Some(event) = chart.events.get(place as usize) else {
         return out.write_all(b"");
     };
     let column = chart.columns.column(place);
-    let shown = chart.view.within(band);
-    match crossed_row(chart.rows, first, &shown, column, event.seq()) {
-        Some(number) => write_reason(&chart.rows[number], place, out),
+    match crossed_row(chart.rows, first, shown, column, event.seq()) {
+        Some(row) => write_reason(&row, place, out),
         None => out.write_all(b""),
     }
 }
 
-/// The number of the first row which is drawn that has an `x` in this column, where it was squashed by an instruction.
-fn crossed_row(rows: &[Row], first: usize, shown: &View, column: u32, by: u32) -> Option<usize> {
+/// The first row which is drawn that has an `x` in this column, where it was squashed by an instruction. No row before
+/// `first` is drawn.
+fn crossed_row(rows: &[Row], first: usize, shown: &View, column: u32, by: u32) -> Option<Row>
+    ensures { AreByFetch rows.now → AreOver rows.now first shown.now.from
+        → result ≡ find (is_shown_crossed shown.now column by) rows.now }
+{
     for number in first..rows.len() {
         let row = &rows[number];
         if row.fetched > shown.to {
             return None;
         }
-        if is_crossed(row, column, by) && shown.shows(row) {
-            return Some(number);
+        if is_shown_crossed(row, shown, column, by) {
+            return Some(*row);
         }
     }
     None
 }
 
+/// Whether a row is drawn, and has an `x` in a column, where it was squashed by this instruction.
+fn is_shown_crossed(row: &Row, shown: &View, column: u32, by: u32) -> bool
+    ensures { result ≡ is_shown_crossed shown.now column by row.now }
+{
+    is_crossed(row, column, by) && shown.shows(row)
+}
+
 /// Whether a row has an `x` in a column, where it was squashed by this instruction.
-fn is_crossed(row: &Row, column: u32, by: u32) -> bool {
+fn is_crossed(row: &Row, column: u32, by: u32) -> bool
+    ensures { result ≡ is_crossed column by row.now }
+{
     match row.squashed {
         Some(squash) if squash.place == column && squash.by == by => is_cross(row.cell(column)),
         _ => false,
     }
 }
 
-fn is_cross(cell: Cell) -> bool {
+fn is_cross(cell: Cell) -> bool
+    ensures { result ≡ is_cross cell }
+{
     match cell {
         Cell::Squash(_) => true,
         _ => false,
@@ -71,7 +113,10 @@ fn is_cross(cell: Cell) -> bool {
 }
 
 /// Writes why a row was squashed by the event at a place.
-fn write_reason<W: Write>(row: &Row, place: u32, out: &mut W) -> io::Result<()> {
+fn write_reason<W: Write>(row: &Row, place: u32, out: &mut W) -> io::Result<()>
+    ensures { OnOk result (Appends (W.contents out.old) (W.contents out.new)
+        (squash_text place row.now.hart row.now.squashed)) }
+{
     match row.squashed {
         Some(squash) => write_squash(place, row.hart, squash, out),
         None => out.write_all(b""),
@@ -79,22 +124,19 @@ fn write_reason<W: Write>(row: &Row, place: u32, out: &mut W) -> io::Result<()> 
 }
 
 /// Writes why the event at a place squashed instructions of a hart.
-fn write_squash<W: Write>(place: u32, hart: u8, squash: Squash, out: &mut W) -> io::Result<()> {
+#[tactic(auto, unfolding(crate::specs::Whys::reason_text))]
+fn write_squash<W: Write>(place: u32, hart: u8, squash: Squash, out: &mut W) -> io::Result<()>
+    ensures { OnOk result (Appends (W.contents out.old) (W.contents out.new) (reason_text place hart squash)) }
+{
     write_place(place, out)?;
-    match squash.cause {
-        Cause::Mispredicted { to, predicted } => {
-            write_number(" mispredicted by ", squash.by, out)?;
-            write_pcs(to, predicted, out)?;
-        }
-        Cause::Replayed => write_number(" replayed by ", squash.by, out)?,
-        Cause::Ended => write_end(hart, " ended", out)?,
-        Cause::Stopped => write_end(hart, " stopped", out)?,
-        Cause::Refetched => out.write_all(b" refetched")?,
-    }
+    write_cause(hart, squash.by, squash.cause, out)?;
     out.write_all(b"\n")
 }
 
-fn write_place<W: Write>(place: u32, out: &mut W) -> io::Result<()> {
+fn write_place<W: Write>(place: u32, out: &mut W) -> io::Result<()>
+    ensures { OnOk result (Appends (W.contents out.old) (W.contents out.new)
+        (codes "x at " ++ (decimal place ++ codes ":"))) }
+{
     let mut text = ArrayString::<16>::new();
     text.push_str("x at ");
     push_decimal(&mut text, place);
@@ -102,15 +144,31 @@ fn write_place<W: Write>(place: u32, out: &mut W) -> io::Result<()> {
     out.write_all(text.as_bytes())
 }
 
-fn write_number<W: Write>(words: &str, number: u32, out: &mut W) -> io::Result<()> {
-    out.write_all(words.as_bytes())?;
-    let mut text = ArrayString::<10>::new();
-    push_decimal(&mut text, number);
-    out.write_all(text.as_bytes())
+/// Writes why instructions of a hart were squashed by one of this number.
+fn write_cause<W: Write>(hart: u8, by: u32, cause: Cause, out: &mut W) -> io::Result<()>
+    ensures { OnOk result (Appends (W.contents out.old) (W.contents out.new) (cause_text hart by cause)) }
+{
+    match cause {
+        Cause::Mispredicted { to, predicted } => write_mispredicted(by, to, predicted, out),
+        Cause::Replayed => write_replayed(by, out),
+        Cause::Ended => write_last(hart, true, out),
+        Cause::Stopped => write_last(hart, false, out),
+        Cause::Refetched => out.write_all(b" refetched"),
+    }
 }
 
-fn write_pcs<W: Write>(to: u32, predicted: u32, out: &mut W) -> io::Result<()> {
-    let mut text = ArrayString::<40>::new();
+fn write_mispredicted<W: Write>(
+    by: u32,
+    to: u32,
+    predicted: u32,
+    out: &mut W,
+) -> io::Result<()>
+    ensures { OnOk result (Appends (W.contents out.old) (W.contents out.new)
+        (cause_text 0 by (Mispredicted to predicted))) }
+{
+    let mut text = ArrayString::<64>::new();
+    text.push_str(" mispredicted by ");
+    push_decimal(&mut text, by);
     text.push_str(": to ");
     push_hex(&mut text, to, 8);
     text.push_str(", predicted ");
@@ -118,10 +176,23 @@ fn write_pcs<W: Write>(to: u32, predicted: u32, out: &mut W) -> io::Result<()> {
     out.write_all(text.as_bytes())
 }
 
-fn write_end<W: Write>(hart: u8, words: &str, out: &mut W) -> io::Result<()> {
-    let mut text = ArrayString::<20>::new();
+fn write_replayed<W: Write>(by: u32, out: &mut W) -> io::Result<()>
+    ensures { OnOk result (Appends (W.contents out.old) (W.contents out.new) (codes " replayed by " ++ decimal by)) }
+{
+    let mut text = ArrayString::<24>::new();
+    text.push_str(" replayed by ");
+    push_decimal(&mut text, by);
+    out.write_all(text.as_bytes())
+}
+
+/// Writes that a hart ended, or that it stopped.
+fn write_last<W: Write>(hart: u8, ended: bool, out: &mut W) -> io::Result<()>
+    ensures { OnOk result (Appends (W.contents out.old) (W.contents out.new)
+        (codes " hart " ++ (decimal hart ++ (if ended then codes " ended" else codes " stopped")))) }
+{
+    let mut text = ArrayString::<24>::new();
     text.push_str(" hart ");
     push_decimal(&mut text, hart);
-    out.write_all(text.as_bytes())?;
-    out.write_all(words.as_bytes())
+    text.push_str(if ended { " ended" } else { " stopped" });
+    out.write_all(text.as_bytes())
 }

@@ -3,7 +3,9 @@
 use super::{ENDING, TWO};
 use crate::lines::{EXPLAIN, EXPLAIN_ORDER, EXPLAIN_SCRIPT};
 use crate::performing::{Performed, perform_whole, read_inputs_of};
-use crate::rows::{ends, shows, text_of};
+use crate::rows::{ends, says, shows, text_of};
+use elf_image::LoadRefused;
+use explanations::words_of_check;
 use sim_inputs::Line;
 use std::alloc::Global;
 use std::process::Abort;
@@ -154,4 +156,33 @@ usually: an empty file, or another one than the linked program
 fn what_is_refused_is_told(rt: HostRuntime) {
     let expected = (2, REFUSED, "smtsim: config refused\n");
     explains(&rt, b"harts = 17\n", b"", expected, rt.alloc());
+}
+
+/// Each check that a file may fail.
+const CHECKS: [LoadRefused; 18] = [
+    LoadRefused::TooShort,
+    LoadRefused::NotElf,
+    LoadRefused::NotClass32,
+    LoadRefused::NotLittleEndian,
+    LoadRefused::WrongVersion,
+    LoadRefused::NotExecutable,
+    LoadRefused::NotRiscV,
+    LoadRefused::WrongHeaderSize,
+    LoadRefused::TableOutsideFile,
+    LoadRefused::WrongSegmentCount,
+    LoadRefused::SegmentOutsideFile,
+    LoadRefused::WrongMemorySize,
+    LoadRefused::SegmentOutsideRam,
+    LoadRefused::SegmentsOverlap,
+    LoadRefused::WrongCodeSegment,
+    LoadRefused::MisalignedCode,
+    LoadRefused::WrongEntry,
+    LoadRefused::OutOfMemory,
+];
+
+#[test]
+fn a_check_is_explained_in_its_own_words(rt: HostRuntime) {
+    for check in &CHECKS {
+        assert!(rt; says(check, words_of_check(*check), rt.alloc()));
+    }
 }

@@ -7,7 +7,7 @@ loop-index-init c = behind_none c.args.place
 
 pub loop-index-preserved : goal.loop-index-preserved
 loop-index-preserved c =
-    rw c.max-latest.ensures (behind_more c.args.place c.args.marks.now c.loop-index.index _ c.loop-index.latest
+    rw c.greater-latest.ensures (behind_more c.args.place c.args.marks.now c.loop-index.index _ c.loop-index.latest
     c.behind.result c.loop-index-test.true c.loop-index.invariant c.behind.ensures)
 
 pub returns : goal.returns

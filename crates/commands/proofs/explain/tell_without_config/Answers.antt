@@ -1,8 +1,10 @@
--- The line before the image, and then what is said of it.
-use Rattle.commands.proofs.OfExplain.{prints_twice}
+use Rattle.std.proofs.Common.{◌≡◌, Err, rules}
+use Rattle.command_parts.specs.Inputs.{as_read}
+use Rattle.command_parts.specs.declared.refused.Unread.TheVariants as unread
+use Rattle.commands.proofs.OfExplain.{prints_nothing}
 use Rattle.commands.proofs.explain.tell_without_config.Goals as goal
 
-pub returns-clause-printed : goal.returns-clause-printed
-returns-clause-printed g c =
-    prints_twice (g.W.Write.contents c.args.out.now) (g.W.Write.contents c.put.new.out)
-    (g.W.Write.contents c.tell_image.new.out) _ _ c.in_ok-put.ensures.printed c.in_ok-tell_image.ensures.printed
+pub returns-in-Err-File-clause-printed : goal.returns-in-Err-File-clause-printed
+returns-in-Err-File-clause-printed g c =
+    let read : as_read c.args.image ≡ Err unread.File = search rules in
+    prints_nothing (g.W.Write.contents c.args.out.now) (as_read c.args.image) read

@@ -1,8 +1,13 @@
 use Rattle.std.proofs.Common.{rules, ap, sym, ◌∙◌}
 use Rattle.std.proofs.lemmas.Result.{IfOk-weaker, IfErr-weaker}
 use Rattle.symbols.specs.Tables.{table_of}
-use Rattle.plain_commands.proofs.OfOutcomes.{any_refused, asks_so, comes_to, watch_of_lent}
+use Rattle.plain_commands.proofs.OfOutcomes.{any_refused, asks_so, comes_to, condition_refused, watch_of_lent}
 use Rattle.plain_commands.proofs.all_outcomes.perform_outcomes.Goals as goal
+
+pub returns-in-Err-clause-refused : goal.returns-in-Err-clause-refused
+returns-in-Err-clause-refused g c =
+    condition_refused c.args.settings.now c.args.image.now (table_of c.args.names.now) c.args.command.now
+    c.in-Err.refused c.in-Err.ensures.refused
 
 pub returns-clause-refused : goal.returns-clause-refused
 returns-clause-refused g c =
