@@ -5,7 +5,7 @@ use Rattle.std.specs.Io.KnownBytes.{Appends}
 use Rattle.std.proofs.lemmas.Bool.{cases_Bool}
 use Rattle.charts.specs.Text.{chart_text}
 use Rattle.sim_inputs.specs.Files.{written_chart}
-use Rattle.std.proofs.Common.{subst, ap, ◌∙◌, inl, inr, Option}
+use Rattle.std.proofs.Common.{refl, sym, subst, ap, ◌∙◌, inl, inr, Option}
 use Rattle.elf_image.specs.Image.{ProgramImage}
 use Rattle.event_text.specs.{Contents.TraceContent}
 use Rattle.smt_model.specs.{Rules.is_legal, Setup.Setup, declared.config.Config.Config}
@@ -22,8 +22,12 @@ use Rattle.command_parts.specs.declared.refused.Refused.TheVariants as refused
 use Rattle.core_commands.specs.declared.chart_ends.Drawn.{Drawn}
 use Rattle.core_commands.specs.Check.{IsTraceOf, AreHistory, setup_by}
 use Rattle.core_commands.specs.Chart.{hart_fits, BetweenEnds, IsDrawnOf, OfDrawn, IsDrawingRefusal, IsChartRefusal}
-use Rattle.core_commands.specs.Chart.{ChartComesTo, IsPrinted, IsTextOf, printed_chart}
-use Rattle.core_commands.specs.ChartEnds.{IsEndRefusal}
+use Rattle.core_commands.specs.Chart.{ChartComesTo, IsPrinted, IsTextOf, printed_chart, view_in, Fits, IsSheetOf, IsTooLarge}
+use Rattle.core_commands.specs.Chart.{AreCountersIf, AreRegistersIf, are_counted}
+use Rattle.core_commands.specs.declared.{chart_columned.Columned.Columned, chart_told.Told.Told}
+use Rattle.core_commands.specs.Drawing.{drawing_with, sheet_of}
+use Rattle.events.specs.declared.event.Event.{Event}
+use Rattle.core_commands.specs.ChartEnds.{AreEnds, IsEndRefusal}
 use Rattle.core_commands.proofs.OfCheck.{following}
 
 pub history_of : (settings : Settings) (image : ProgramImage) (read : TraceContent) (core : CoreView)
@@ -65,6 +69,49 @@ printed_of chart text drawn old new is printed =
           rw unwritten (subst (λ (t : List ℕ). Appends old new t) (is unwritten)
           (subst (λ (b : Bool). Appends old new (if b then [] else text)) unwritten printed))
     ]
+
+-- ---- What is drawn by columns
+
+module _ (chart : ChartCommand) (setup : Setup) (drawn : Drawn) (from to : ℕ) (ends : AreEnds chart drawn from to)
+    (columned : Columned) (is_sheet : IsSheetOf chart drawn (view_in drawn from to) (sheet_of drawn columned)) where
+  pub too_large_between : (place : ℕ) → IsTooLarge chart (sheet_of drawn columned) place
+      → IsDrawingRefusal chart drawn (refused.Picture place)
+  too_large_between place is = (from, to, ends, sheet_of drawn columned, is_sheet, is)
+
+  pub text_between : (told : Told) (events : List Event) → drawn.events.now ≡ events
+      → Fits chart (sheet_of drawn columned) → told.harts ≡ setup.harts
+      → AreCountersIf (are_counted chart columned.view) setup events columned.columns columned.view told.counters.items
+      → AreRegistersIf chart.registers events told.registers.items
+      → (text : List ℕ)
+      → (is_some (written_chart chart) ≡ false → text ≡ chart_text (drawing_with chart drawn columned told))
+      → BetweenEnds chart drawn (IsTextOf chart setup drawn text)
+  text_between told events same fits harts counters registers text is = (
+    from,
+    to,
+    ends,
+    sheet_of drawn columned,
+    is_sheet,
+    record {
+      fits = fits;
+      drawing = drawing_with chart drawn columned told;
+      is_drawing = record {
+        rows_are = refl;
+        events_are = refl;
+        columns_are = refl;
+        view_is = refl;
+        width_is = refl;
+        harts_are = harts;
+        marks_are = refl;
+        counters_are = subst
+            (λ all. AreCountersIf (are_counted chart columned.view) setup all columned.columns columned.view
+            told.counters.items)
+            (sym same) counters;
+        registers_are =
+            subst (λ all. AreRegistersIf chart.registers all told.registers.items) (sym same) registers;
+      };
+      is = is;
+    },
+  )
 
 -- A trace of a history of the core, and what is drawn of it.
 module _ (settings : Settings) (image : ProgramImage) (trace : List ℕ) (chart : ChartCommand) (names : Table)

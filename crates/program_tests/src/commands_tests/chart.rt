@@ -129,3 +129,13 @@ fn a_log_is_written(rt: HostRuntime) {
         text.starts_with(start) && text.ends_with(LOG_END),
     );
 }
+
+#[test]
+fn a_log_is_written_behind_a_picture(rt: HostRuntime) {
+    let both = written(&rt, Some("p"), Some("k"), rt.alloc());
+    let text = text_of(&both);
+    let is = text.starts_with("<svg ")
+        && text.contains("</svg>\nKanata\t0004\nC=\t0\n")
+        && text.ends_with(LOG_END);
+    shows(&rt, "a picture and a log", text, is);
+}
