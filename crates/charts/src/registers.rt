@@ -12,11 +12,7 @@ use std::io::Write;
 use text_fields::push_decimal;
 
 /// How wide the registers are of the rows that are drawn.
-pub(crate) fn registers_width(
-    rows: &[Row],
-    view: &View,
-    registers: &[Option<Registers>],
-) -> u32
+pub(crate) fn registers_width(rows: &[Row], view: &View, registers: &[Option<Registers>]) -> u32
     ensures { result ≡ registers_width view.now registers.now rows.now }
 {
     let mut width = 0;
@@ -36,7 +32,9 @@ pub(crate) fn width_of(registers: &[Option<Registers>], number: usize) -> u32
     match registers_at(registers, number) {
         Some(found) => {
             let [first, second] = found.sources;
-            (destination_of(found.destination).len() + source_of(first).len() + source_of(second).len()) as u32
+            (destination_of(found.destination).len()
+                + source_of(first).len()
+                + source_of(second).len()) as u32
         }
         None => 0,
     }
