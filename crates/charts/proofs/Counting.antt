@@ -1,9 +1,9 @@
 -- What the loops over what is counted write.
 use Rattle.std.specs.Prelude.{if◌then◌else◌}
 use Rattle.std.specs.List.{range_with_len}
-use Rattle.std.proofs.Common.{◌≡◌, ℕ, zero, suc, ◌+◌, ◌-◌, ◌<◌, ◌≤◌, List, [], ◌∷◌, ◌++◌, refl, sym, ap, subst, ◌∙◌, arith}
+use Rattle.std.proofs.Common.{◌≡◌, ℕ, zero, suc, ◌+◌, ◌-◌, ◌<◌, ◌≤◌, max, length, List, [], ◌∷◌, ◌++◌, refl, sym, ap, subst, ◌∙◌, arith}
 use Rattle.charts.specs.declared.text.counted.Counter.{Counter}
-use Rattle.charts.specs.Counted.{counter_line, digit_text, digits_over, blanks_behind, icount_text, icounts_over}
+use Rattle.charts.specs.Counted.{counter_line, digit_text, height_over, digits_over, blanks_behind, icount_text, icounts_over}
 use Rattle.charts.specs.Counted.{in_flight_over, in_flight_text, lines_from, number_in}
 use Rattle.charts.specs.{Drawings.Drawing, Text.places}
 use Rattle.charts.proofs.Lines.{next_place, no_place}
@@ -54,3 +54,10 @@ module _ (drawing : Drawing) (counter : Counter) (left due column last : ℕ) wh
 
   pub no_digit : last < column → digits_over drawing counter left due (places column last) ≡ []
   no_digit above = ap (digits_over drawing counter left due) (no_place column last above)
+
+  pub next_height : column ≤ last → height_over drawing counter due (places column last)
+      ≡ height_over drawing counter (max due (length (number_in drawing counter column))) (places (column + 1) last)
+  next_height below = ap (height_over drawing counter due) (next_place column last below)
+
+  pub no_height : last < column → height_over drawing counter due (places column last) ≡ due
+  no_height above = ap (height_over drawing counter due) (no_place column last above)

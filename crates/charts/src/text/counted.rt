@@ -1,6 +1,6 @@
 //! Under the rows of a band what is counted at each of its columns.
 
-ghost use Rattle.std.specs.Prelude.{◌≡◌, ◌≤◌, ◌<◌, ◌^◌, ◌++◌, [], if◌then◌else◌, IfOk, OnOk, length, slice_get, slice_index_or};
+ghost use Rattle.std.specs.Prelude.{◌≡◌, ◌≤◌, ◌<◌, ◌^◌, ◌++◌, [], if◌then◌else◌, IfOk, OnOk, length, max, slice_get, slice_index_or};
 ghost use Rattle.std.specs.{Fmt.decimal, List.range_with_len};
 ghost use Rattle.chart_columns.specs.Tables.{head, last};
 ghost use Rattle.std.specs.Io.KnownBytes.{Appends};
@@ -166,9 +166,16 @@ fn height_of(chart: &TextChart<'_>, counter: Counter, band: &Band) -> usize
 {
     let mut tall = 1;
     for column in band.from..=band.to {
-        tall = tall.max(number_in(chart, counter, column).len());
+        let number = number_in(chart, counter, column);
+        tall = greater(tall, number.len());
     }
     tall
+}
+
+fn greater(one: usize, other: usize) -> usize
+    ensures { result ≡ max one other }
+{
+    one.max(other)
 }
 
 /// Writes a line of a counter, with so many digits left; the last of them has its name.
