@@ -1,2 +1,3 @@
 mod Pictured
 mod Lines
+mod Counting

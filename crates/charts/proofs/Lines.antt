@@ -12,6 +12,7 @@ use Rattle.std.proofs.lemmas.Grind.{common_steps}
 use Rattle.std.proofs.lemmas.List.{take_more, get_or-take, get_or_default, get_or-drop, length-drop, length-take}
 use Rattle.std.proofs.lemmas.List.Elements.{filter-append}
 use Rattle.std.proofs.Math.Nat.{div-mul-le_self}
+use Rattle.std.proofs.Math.Seq.{drop-cons}
 use Rattle.std.proofs.Common.{mul-le-mul_right}
 use Rattle.text_fields.specs.Each.{each_from}
 use Rattle.text_fields.proofs.Appending.{appends_more, each_step}
@@ -20,6 +21,8 @@ use Rattle.chart_rows.specs.{declared.row.Row.Row, declared.view.View.View, decl
 use Rattle.chart_columns.specs.Tables.{head}
 use Rattle.charts.specs.declared.label.Widths.{Widths}
 use Rattle.charts.specs.Drawings.{Drawing}
+use Rattle.chart_registers.specs.declared.registers.Registers.{Registers}
+use Rattle.charts.specs.Found.{wider_found, width_over}
 use Rattle.charts.specs.Whys.{is_crossed, is_shown_crossed, why_text, whys_over}
 use Rattle.chart_rows.specs.Views.{shows, is_before, last_place, draws_hart}
 use Rattle.chart_rows.specs.Order.{AreByFetch, AreOver, AreOverBefore}
@@ -352,3 +355,37 @@ module _ (rows : List Row) (shown : View) (column by : ℕ) where
       → find (is_shown_crossed shown column by) rows ≡ None
   none_at_all i end none = unfound (is_shown_crossed shown column by) rows (λ k d below.
       none k d (omega (arith, end, below)))
+
+pub still_none : {A : Type 0} (p : A → Bool) (xs : List A) (i : ℕ) (d : A) → i < length xs
+    → p (get_or xs i d) ≡ false → ((k : ℕ) (e : A) → k < i → p (get_or xs k e) ≡ false)
+    → (k : ℕ) (e : A) → k < i + 1 → p (get_or xs k e) ≡ false
+still_none p xs i d inside next none k e below = elim (cases_lt k i) [
+  | inl before ↦ none k e before
+  | inr newest ↦
+      let same : k ≡ i = omega (arith, below, newest) in
+      ap (λ n. p (get_or xs n e)) same ∙ ap p (get_or_default xs i e d inside) ∙ next
+]
+
+-- ---- Registers
+
+drop_more : (xs : List Row) (i : ℕ) (d : Row) → i < length xs → drop i xs ≡ get_or xs i d ∷ drop (i + 1) xs
+drop_more xs i d inside =
+    let more : suc i ≡ i + 1 = omega arith in
+    drop-cons xs i d inside ∙ ap (λ n. get_or xs i d ∷ drop n xs) more
+
+drop_all : (i : ℕ) (xs : List Row) → length xs ≤ i → drop i xs ≡ []
+drop_all zero [] end = refl
+drop_all (suc i) [] end = refl
+drop_all zero (x ∷ xs) end = absurd (omega (arith, end))
+drop_all (suc i) (x ∷ xs) end = drop_all i xs (omega (arith, end))
+
+pub next_found : (view : View) (registers : List (Option Registers)) (rows : List Row) (i width : ℕ) (d : Row)
+    → i < length rows → width_over view registers i width (drop i rows)
+    ≡ width_over view registers (i + 1) (wider_found view registers i (get_or rows i d) width) (drop (i + 1) rows)
+next_found view registers rows i width d inside =
+    ap (width_over view registers i width) (drop_more rows i d inside)
+
+pub no_found : (view : View) (registers : List (Option Registers)) (rows : List Row) (i width : ℕ)
+    → length rows ≤ i → width_over view registers i width (drop i rows) ≡ width
+no_found view registers rows i width end =
+    ap (width_over view registers i width) (drop_all i rows end)

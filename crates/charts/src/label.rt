@@ -20,9 +20,9 @@ ghost use Rattle.charts.specs.Text.{
   widths_of,
 };
 
+use crate::registers::{registers_width, width_of, write_found};
 use address_labels::{Form, Labels, label_width, write_labels};
 use arrayvec::ArrayString;
-use crate::registers::{registers_width, width_of, write_found};
 use chart_registers::Registers;
 use chart_rows::{Row, View};
 use rv_decode::{Op, decode_op};
@@ -77,7 +77,12 @@ pub(crate) struct Widths {
 
 impl Widths {
     /// Of the names of the rows that are drawn.
-    pub fn of(rows: &[Row], view: &View, labels: &Labels<'_>, registers: &[Option<Registers>]) -> Widths
+    pub fn of(
+        rows: &[Row],
+        view: &View,
+        labels: &Labels<'_>,
+        registers: &[Option<Registers>],
+    ) -> Widths
         ensures { result ≡ widths_of view.now (marks_of labels.now) registers.now rows.now }
     {
         let mut widths = Widths {

@@ -2,7 +2,7 @@
 
 ghost use Rattle.std.specs.Prelude.{◌≡◌, ◌<◌, OnOk, length, slice_index_or, Some, None};
 ghost use Rattle.std.specs.Io.KnownBytes.{Appends};
-ghost use Rattle.charts.specs.Found.{destination_text, found_text, registers_text, registers_width, source_text};
+ghost use Rattle.charts.specs.Found.{destination_text, found_text, registers_text, registers_width, source_text, wider_found};
 
 use arrayvec::ArrayString;
 use chart_registers::{Destination, Registers, Source};
@@ -12,18 +12,22 @@ use std::io::Write;
 use text_fields::push_decimal;
 
 /// How wide the registers are of the rows that are drawn.
-pub(crate) fn registers_width(
-    rows: &[Row],
-    view: &View,
-    registers: &[Option<Registers>],
-) -> u32
+pub(crate) fn registers_width(rows: &[Row], view: &View, registers: &[Option<Registers>]) -> u32
     ensures { result ≡ registers_width view.now registers.now rows.now }
 {
     let mut width = 0;
     for number in 0..rows.len() {
-        if view.shows(&rows[number]) {
-            width = width.max(width_of(registers, number));
-        }
+        width = wider(&rows[number], view, registers, number, width);
+    }
+    width
+}
+
+/// As wide, or as wide as the registers of one more row, where that is drawn.
+fn wider(row: &Row, view: &View, registers: &[Option<Registers>], number: usize, width: u32) -> u32
+    ensures { result ≡ wider_found view.now registers.now number row.now width }
+{
+    if view.shows(row) {
+        return width.max(width_of(registers, number));
     }
     width
 }
@@ -36,7 +40,9 @@ pub(crate) fn width_of(registers: &[Option<Registers>], number: usize) -> u32
     match registers_at(registers, number) {
         Some(found) => {
             let [first, second] = found.sources;
-            (destination_of(found.destination).len() + source_of(first).len() + source_of(second).len()) as u32
+            (destination_of(found.destination).len()
+                + source_of(first).len()
+                + source_of(second).len()) as u32
         }
         None => 0,
     }

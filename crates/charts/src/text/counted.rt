@@ -1,6 +1,6 @@
 //! Under the rows of a band what is counted at each of its columns.
 
-ghost use Rattle.std.specs.Prelude.{◌≡◌, ◌≤◌, ◌++◌, [], if◌then◌else◌, IfOk, OnOk, length, slice_get, slice_index_or};
+ghost use Rattle.std.specs.Prelude.{◌≡◌, ◌≤◌, ◌<◌, ◌^◌, ◌++◌, [], if◌then◌else◌, IfOk, OnOk, length, max, slice_get, slice_index_or};
 ghost use Rattle.std.specs.{Fmt.decimal, List.range_with_len};
 ghost use Rattle.chart_columns.specs.Tables.{head, last};
 ghost use Rattle.std.specs.Io.KnownBytes.{Appends};
@@ -84,6 +84,7 @@ fn write_icounts<W: Write>(
     indent: usize,
     out: &mut W,
 ) -> io::Result<()>
+    requires { indent < 2 ^ 40 }
     ensures { OnOk result (Appends (W.contents out.old) (W.contents out.new) (icounts_over (drawing_of chart.now) indent
         (places band.now.from band.now.to) (range_with_len 0 chart.now.harts))) }
 {
@@ -100,6 +101,7 @@ fn write_in_flight<W: Write>(
     indent: usize,
     out: &mut W,
 ) -> io::Result<()>
+    requires { indent < 2 ^ 40 }
     ensures { OnOk result (Appends (W.contents out.old) (W.contents out.new) (in_flight_over (drawing_of chart.now) indent
         (places band.now.from band.now.to) (range_with_len 0 chart.now.harts))) }
 {
@@ -118,6 +120,7 @@ fn write_hart<W: Write>(
     indent: usize,
     out: &mut W,
 ) -> io::Result<()>
+    requires { indent < 2 ^ 40 }
     ensures { OnOk result (Appends (W.contents out.old) (W.contents out.new) (if draws_hart chart.now.view.hart hart
         then counter_text (drawing_of chart.now) indent (places band.now.from band.now.to) counter else [])) }
 {
@@ -146,6 +149,7 @@ fn write_counter<W: Write>(
     indent: usize,
     out: &mut W,
 ) -> io::Result<()>
+    requires { indent < 2 ^ 40 }
     ensures { OnOk result (Appends (W.contents out.old) (W.contents out.new)
         (counter_text (drawing_of chart.now) indent (places band.now.from band.now.to) counter)) }
 {
@@ -162,9 +166,16 @@ fn height_of(chart: &TextChart<'_>, counter: Counter, band: &Band) -> usize
 {
     let mut tall = 1;
     for column in band.from..=band.to {
-        tall = tall.max(number_in(chart, counter, column).len());
+        let number = number_in(chart, counter, column);
+        tall = greater(tall, number.len());
     }
     tall
+}
+
+fn greater(one: usize, other: usize) -> usize
+    ensures { result ≡ max one other }
+{
+    one.max(other)
 }
 
 /// Writes a line of a counter, with so many digits left; the last of them has its name.
@@ -177,7 +188,8 @@ fn write_counter_line<W: Write>(
     indent: usize,
     out: &mut W,
 ) -> io::Result<()>
-    requires { 1 ≤ left }
+    requires some { 1 ≤ left }
+    requires few { indent < 2 ^ 40 }
     ensures { OnOk result (Appends (W.contents out.old) (W.contents out.new)
         (counter_line (drawing_of chart.now) counter indent (places band.now.from band.now.to) left)) }
 {
@@ -206,14 +218,15 @@ fn write_digits<W: Write>(
     blanks: usize,
     out: &mut W,
 ) -> io::Result<()>
-    requires { 1 ≤ left }
+    requires some { 1 ≤ left }
+    requires few { blanks < 2 ^ 40 }
     ensures { OnOk result (Appends (W.contents out.old) (W.contents out.new)
         (digits_over (drawing_of chart.now) counter left blanks (places band.now.from band.now.to))) }
 {
-    let mut blanks = blanks;
+    let mut due = blanks;
     for column in band.from..=band.to {
         let number = number_in(chart, counter, column);
-        blanks = write_digit(number.as_bytes(), left, blanks, out)?;
+        due = write_digit(number.as_bytes(), left, due, out)?;
     }
     Ok(())
 }
@@ -226,12 +239,13 @@ fn write_digit<W: Write>(
     blanks: usize,
     out: &mut W,
 ) -> io::Result<usize>
-    requires { 1 ≤ left }
+    requires some { 1 ≤ left }
+    requires few { blanks < 2 ^ 41 }
     ensures { IfOk result (λ due. (due ≡ blanks_behind left blanks number.now)
         × Appends (W.contents out.old) (W.contents out.new) (digit_text left blanks number.now)) }
 {
     if number.len() < left {
-        return Ok(blanks.saturating_add(1));
+        return Ok(blanks + 1);
     }
     write_spaces(blanks, out)?;
     let digit = number[number.len() - left];

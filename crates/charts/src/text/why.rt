@@ -157,12 +157,7 @@ fn write_cause<W: Write>(hart: u8, by: u32, cause: Cause, out: &mut W) -> io::Re
     }
 }
 
-fn write_mispredicted<W: Write>(
-    by: u32,
-    to: u32,
-    predicted: u32,
-    out: &mut W,
-) -> io::Result<()>
+fn write_mispredicted<W: Write>(by: u32, to: u32, predicted: u32, out: &mut W) -> io::Result<()>
     ensures { OnOk result (Appends (W.contents out.old) (W.contents out.new)
         (cause_text 0 by (Mispredicted to predicted))) }
 {

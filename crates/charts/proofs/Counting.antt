@@ -1,0 +1,63 @@
+-- What the loops over what is counted write.
+use Rattle.std.specs.Prelude.{if◌then◌else◌}
+use Rattle.std.specs.List.{range_with_len}
+use Rattle.std.proofs.Common.{◌≡◌, ℕ, zero, suc, ◌+◌, ◌-◌, ◌<◌, ◌≤◌, max, length, List, [], ◌∷◌, ◌++◌, refl, sym, ap, subst, ◌∙◌, arith}
+use Rattle.charts.specs.declared.text.counted.Counter.{Counter}
+use Rattle.charts.specs.Counted.{counter_line, digit_text, height_over, digits_over, blanks_behind, icount_text, icounts_over}
+use Rattle.charts.specs.Counted.{in_flight_over, in_flight_text, lines_from, number_in}
+use Rattle.charts.specs.{Drawings.Drawing, Text.places}
+use Rattle.charts.proofs.Lines.{next_place, no_place}
+
+next_range : (from to : ℕ) → from < to
+    → range_with_len from (to - from) ≡ from ∷ range_with_len (from + 1) (to - (from + 1))
+next_range from to below =
+    let some : to - from ≡ suc (to - (from + 1)) = omega (arith, below) in ap (range_with_len from) some
+
+no_range : (from to : ℕ) → to ≤ from → range_with_len from (to - from) ≡ []
+no_range from to above = let none : to - from ≡ 0 = omega (arith, above) in ap (range_with_len from) none
+
+module _ (drawing : Drawing) (indent : ℕ) (columns : List ℕ) (hart harts : ℕ) where
+  pub next_icount : hart < harts → icounts_over drawing indent columns (range_with_len hart (harts - hart))
+      ≡ icount_text drawing indent columns hart
+      ++ icounts_over drawing indent columns (range_with_len (hart + 1) (harts - (hart + 1)))
+  next_icount below = ap (icounts_over drawing indent columns) (next_range hart harts below)
+
+  pub no_icount : harts ≤ hart → icounts_over drawing indent columns (range_with_len hart (harts - hart)) ≡ []
+  no_icount above = ap (icounts_over drawing indent columns) (no_range hart harts above)
+
+  pub next_in_flight : hart < harts → in_flight_over drawing indent columns (range_with_len hart (harts - hart))
+      ≡ in_flight_text drawing indent columns hart
+      ++ in_flight_over drawing indent columns (range_with_len (hart + 1) (harts - (hart + 1)))
+  next_in_flight below = ap (in_flight_over drawing indent columns) (next_range hart harts below)
+
+  pub no_in_flight : harts ≤ hart → in_flight_over drawing indent columns (range_with_len hart (harts - hart)) ≡ []
+  no_in_flight above = ap (in_flight_over drawing indent columns) (no_range hart harts above)
+
+module _ (drawing : Drawing) (counter : Counter) (indent : ℕ) (columns : List ℕ) (tall line : ℕ) where
+  pub next_line : line < tall → lines_from drawing counter indent columns (tall - line)
+      ≡ counter_line drawing counter indent columns (tall - line)
+      ++ lines_from drawing counter indent columns (tall - (line + 1))
+  next_line below =
+      let some : tall - line ≡ suc (tall - (line + 1)) = omega (arith, below) in
+      ap (lines_from drawing counter indent columns) some
+      ∙ ap (λ left. counter_line drawing counter indent columns left
+      ++ lines_from drawing counter indent columns (tall - (line + 1))) (sym some)
+
+  pub no_line : tall ≤ line → lines_from drawing counter indent columns (tall - line) ≡ []
+  no_line above = let none : tall - line ≡ 0 = omega (arith, above) in ap (lines_from drawing counter indent columns) none
+
+module _ (drawing : Drawing) (counter : Counter) (left due column last : ℕ) where
+  pub next_digit : column ≤ last → digits_over drawing counter left due (places column last)
+      ≡ digit_text left due (number_in drawing counter column) ++ digits_over drawing counter left
+      (blanks_behind left due (number_in drawing counter column)) (places (column + 1) last)
+  next_digit below = ap (digits_over drawing counter left due) (next_place column last below)
+
+  pub no_digit : last < column → digits_over drawing counter left due (places column last) ≡ []
+  no_digit above = ap (digits_over drawing counter left due) (no_place column last above)
+
+  pub next_height : column ≤ last → height_over drawing counter due (places column last)
+      ≡ height_over drawing counter (max due (length (number_in drawing counter column))) (places (column + 1) last)
+  next_height below = ap (height_over drawing counter due) (next_place column last below)
+
+  pub no_height : last < column → height_over drawing counter due (places column last) ≡ due
+  no_height above = ap (height_over drawing counter due) (no_place column last above)

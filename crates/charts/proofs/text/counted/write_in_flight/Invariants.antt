@@ -1,0 +1,13 @@
+use Rattle.std.proofs.Common.{◌-◌}
+use Rattle.std.specs.List.{range_with_len}
+use Rattle.charts.specs.{Drawings.drawing_of, Text.places}
+use Rattle.charts.specs.Counted.{in_flight_over}
+use Rattle.charts.proofs.Lines.{IsLeft}
+use Rattle.charts.proofs.text.counted.write_in_flight.Given as goal
+
+-- those of the harts from this one on are left
+abbrev pub invariant-loop-hart : goal.invariant-loop-hart
+invariant-loop-hart g l = IsLeft (g.W.Write.contents l.fn.out) (g.W.Write.contents l.out)
+    (in_flight_over (drawing_of l.chart) l.indent (places l.band.from l.band.to)
+    (range_with_len l.hart (l.chart.harts - l.hart)))
+    (in_flight_over (drawing_of l.chart) l.indent (places l.band.from l.band.to) (range_with_len 0 l.chart.harts))
