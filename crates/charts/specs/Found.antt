@@ -20,7 +20,7 @@ writer_text (Some by) = codes ":" ++ decimal by
 abbrev pub source_text : Option Source → List ℕ
 source_text None = []
 source_text (Some found) =
-    codes " x" ++ (decimal found.register ++ (codes "<p" ++ (decimal found.physical ++ writer_text found.by)))
+    codes " x" ++ (decimal found.register ++ (codes "=p" ++ (decimal found.physical ++ writer_text found.by)))
 
 abbrev pub sources_text : List (Option Source) → List ℕ
 sources_text [] = []

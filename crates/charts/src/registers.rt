@@ -95,7 +95,7 @@ fn destination_of(destination: Option<Destination>) -> ArrayString<16>
     text
 }
 
-/// What was found for a source, as ` x5<p31:4`, or ` x6<p6` where it is a register of the start.
+/// What was found for a source, as ` x5=p31:4`, or ` x6=p6` where it is a register of the start.
 fn source_of(source: Option<Source>) -> ArrayString<24>
     ensures { result.bytes ≡ source_text source }
 {
@@ -103,7 +103,7 @@ fn source_of(source: Option<Source>) -> ArrayString<24>
     if let Some(found) = source {
         text.push_str(" x");
         push_decimal(&mut text, found.register);
-        text.push_str("<p");
+        text.push_str("=p");
         push_decimal(&mut text, found.physical);
         if let Some(by) = found.by {
             text.push_str(":");

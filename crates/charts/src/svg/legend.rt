@@ -124,7 +124,7 @@ fn write_left<W: Write>(chart: &Chart<'_>, form: &PictureForm<'_>, out: &mut W) 
     }
     if !form.registers.is_empty() {
         out.write_all(
-            b", registers (x7&gt;p33 written to p33, x5&lt;p31:4 read from p31, which number 4 writes)",
+            b", registers (x7&gt;p33 written to p33, x5=p31:4 read from p31, which number 4 writes)",
         )?;
     }
     out.write_all(b"</text>\n")
