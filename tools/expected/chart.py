@@ -108,7 +108,7 @@ def registers_of(history, row):
     for r in dict.fromkeys((row.op.first, row.op.second)):
         if r:
             by = history.source(past, row.hart, r, row.number)
-            found.append(f"x{r}<p{history.register_by(past, row.hart, r, by)}" + ("" if by is None else f":{by}"))
+            found.append(f"x{r}=p{history.register_by(past, row.hart, r, by)}" + ("" if by is None else f":{by}"))
     return " ".join(found)
 
 
