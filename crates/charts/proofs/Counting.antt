@@ -4,7 +4,9 @@ use Rattle.std.specs.List.{range_with_len}
 use Rattle.std.proofs.Common.{◌≡◌, ℕ, zero, suc, ◌+◌, ◌-◌, ◌<◌, ◌≤◌, max, length, List, [], ◌∷◌, ◌++◌, refl, sym, ap, subst, ◌∙◌, arith}
 use Rattle.charts.specs.declared.text.counted.Counter.{Counter}
 use Rattle.charts.specs.Counted.{counter_line, digit_text, height_over, digits_over, blanks_behind, icount_text, icounts_over}
-use Rattle.charts.specs.Counted.{in_flight_over, in_flight_text, lines_from, number_in}
+use Rattle.charts.specs.Counted.{in_flight_over, in_flight_text, lines_from, number_in, chosen_over, chosen_text, places_between}
+use Rattle.std.specs.Prelude.{slice_get}
+use Rattle.events.specs.declared.event.Event.{Event}
 use Rattle.charts.specs.{Drawings.Drawing, Text.places}
 use Rattle.charts.proofs.Lines.{next_place, no_place}
 
@@ -61,3 +63,11 @@ module _ (drawing : Drawing) (counter : Counter) (left due column last : ℕ) wh
 
   pub no_height : last < column → height_over drawing counter due (places column last) ≡ due
   no_height above = ap (height_over drawing counter due) (no_place column last above)
+
+module _ (events : List Event) (before : List ℕ) (place to : ℕ) where
+  pub next_chosen : place ≤ to → chosen_over events before (places_between place to)
+      ≡ chosen_over events (chosen_text before (slice_get events place)) (places_between (place + 1) to)
+  next_chosen below = ap (chosen_over events before) (next_place place to below)
+
+  pub no_chosen : to < place → chosen_over events before (places_between place to) ≡ before
+  no_chosen above = ap (chosen_over events before) (no_place place to above)

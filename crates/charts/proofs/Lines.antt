@@ -319,21 +319,27 @@ found_at p (x ∷ xs) (suc i) d below none is =
     ap (λ b. if b then Some x else find p xs) (none 0 x (omega arith))
     ∙ found_at p xs i d (omega (arith, below)) (λ k e before. none (suc k) e (omega (arith, before))) is
 
-module _ (rows : List Row) (shown : View) (column by : ℕ) where
-  uncrossed : (row : Row) → shows shown row ≡ false → is_shown_crossed shown column by row ≡ false
-  uncrossed row is = ap (λ b. is_crossed column by row && b) is ∙ none (is_crossed column by row)
-  where
-    none : (b : Bool) → (b && false) ≡ false
-    none true = refl
-    none false = refl
+and_false : (b : Bool) → (b && false) ≡ false
+and_false true = refl
+and_false false = refl
 
+uncrossed : (shown : View) (column by : ℕ) (row : Row) → shows shown row ≡ false
+    → is_shown_crossed shown column by row ≡ false
+uncrossed shown column by row is =
+    ap (λ b. is_crossed column by row && b) is ∙ and_false (is_crossed column by row)
+
+ended_unshown : (shown : View) (row : Row) → is_before (last_place row) shown.from ≡ true → shows shown row ≡ false
+ended_unshown shown row is = grind (arith, nat_tests, common_steps, is)
+
+unbegun_unshown : (shown : View) (row : Row) → shown.to < row.fetched → shows shown row ≡ false
+unbegun_unshown shown row is = grind (arith, nat_tests, common_steps, is)
+
+module _ (rows : List Row) (shown : View) (column by : ℕ) where
   pub none_crossed_before : (first : ℕ) → AreOver rows first shown.from → (k : ℕ) (d : Row) → k < first
       → is_shown_crossed shown column by (get_or rows k d) ≡ false
   none_crossed_before first over k d before =
-      uncrossed (get_or rows k d) (ended (get_or rows k d) (over k d (omega arith) before))
-  where
-    ended : (row : Row) → is_before (last_place row) shown.from ≡ true → shows shown row ≡ false
-    ended row is = grind (arith, nat_tests, common_steps, is)
+      uncrossed shown column by (get_or rows k d)
+      (ended_unshown shown (get_or rows k d) (over k d (omega arith) before))
 
   pub none_crossed : (i : ℕ) (e : Row) → AreByFetch rows → i < length rows → shown.to < (get_or rows i e).fetched
       → ((k : ℕ) (d : Row) → k < i → is_shown_crossed shown column by (get_or rows k d) ≡ false)
@@ -344,11 +350,9 @@ module _ (rows : List Row) (shown : View) (column by : ℕ) where
         | inr later ↦
             let rises = by_fetch i k d later below in
             let begins = subst (λ (row : Row). shown.to < row.fetched) (get_or_default rows i e d inside) late in
-            uncrossed (get_or rows k d) (unbegun (get_or rows k d) (omega (arith, rises, begins)))
+            uncrossed shown column by (get_or rows k d)
+            (unbegun_unshown shown (get_or rows k d) (omega (arith, rises, begins)))
       ])
-  where
-    unbegun : (row : Row) → shown.to < row.fetched → shows shown row ≡ false
-    unbegun row is = grind (arith, nat_tests, common_steps, is)
 
   pub none_at_all : (i : ℕ) → length rows ≤ i
       → ((k : ℕ) (d : Row) → k < i → is_shown_crossed shown column by (get_or rows k d) ≡ false)

@@ -24,7 +24,8 @@ source_text (Some found) =
 
 abbrev pub sources_text : List (Option Source) → List ℕ
 sources_text [] = []
-sources_text (source ∷ others) = source_text source ++ sources_text others
+sources_text (source ∷ []) = source_text source
+sources_text (source ∷ next ∷ others) = source_text source ++ sources_text (next ∷ others)
 
 -- Those of an instruction, of which none may be known; and of the one with this number.
 abbrev pub found_text : Option Registers → List ℕ

@@ -27,10 +27,13 @@ is_crossed column by row = is_squash column by row.squashed && is_cross (cell_at
 abbrev pub is_shown_crossed : View → ℕ → ℕ → Row → Bool
 is_shown_crossed shown column by row = is_crossed column by row && shows shown row
 
+-- Where a hart goes on, and where it was expected to.
+abbrev pub paths_text : ℕ → ℕ → List ℕ
+paths_text to predicted = codes ": to " ++ (hex 8 to ++ (codes ", predicted " ++ hex 8 predicted))
+
 -- Why instructions of a hart were squashed by one of this number.
 abbrev pub cause_text : ℕ → ℕ → Cause → List ℕ
-cause_text hart by (Mispredicted to predicted) = codes " mispredicted by " ++ (decimal by
-    ++ (codes ": to " ++ (hex 8 to ++ (codes ", predicted " ++ hex 8 predicted))))
+cause_text hart by (Mispredicted to predicted) = (codes " mispredicted by " ++ decimal by) ++ paths_text to predicted
 cause_text hart by Replayed = codes " replayed by " ++ decimal by
 cause_text hart by Ended = codes " hart " ++ (decimal hart ++ codes " ended")
 cause_text hart by Stopped = codes " hart " ++ (decimal hart ++ codes " stopped")

@@ -2,21 +2,19 @@
 //! x of hart h is at the start physical register 31 h + x - 1.
 
 use crate::overtaken::{overtaken_config, overtaken_events, overtaken_image};
-use crate::rows::holds;
 use chart_registers::{Destination, Registers, Source, registers_of};
 use history_check::check;
 use std::alloc::Global;
 
 /// An instruction, by its number and as a chart would have its registers.
 struct Row {
-    instruction: &'static str,
     seq: usize,
     registers: Option<Registers>,
 }
 
 static ROWS: [Row; 12] = [
+    // lui x6,0x80001
     Row {
-        instruction: "lui x6,0x80001",
         seq: 0,
         registers: Some(Registers {
             destination: Some(Destination {
@@ -27,8 +25,8 @@ static ROWS: [Row; 12] = [
         }),
     },
     // x10 of hart 0 and of hart 1, as it is from the start.
+    // bne x10,x0,0x80000014
     Row {
-        instruction: "bne x10,x0,0x80000014",
         seq: 2,
         registers: Some(Registers {
             destination: None,
@@ -42,8 +40,8 @@ static ROWS: [Row; 12] = [
             ],
         }),
     },
+    // bne x10,x0,0x80000014 of hart 1
     Row {
-        instruction: "bne x10,x0,0x80000014 of hart 1",
         seq: 3,
         registers: Some(Registers {
             destination: None,
@@ -57,8 +55,8 @@ static ROWS: [Row; 12] = [
             ],
         }),
     },
+    // lw x5,0(x6)
     Row {
-        instruction: "lw x5,0(x6)",
         seq: 4,
         registers: Some(Registers {
             destination: Some(Destination {
@@ -75,8 +73,8 @@ static ROWS: [Row; 12] = [
             ],
         }),
     },
+    // addi x7,x5,1
     Row {
-        instruction: "addi x7,x5,1",
         seq: 6,
         registers: Some(Registers {
             destination: Some(Destination {
@@ -94,8 +92,8 @@ static ROWS: [Row; 12] = [
         }),
     },
     // It was squashed behind its rename, and has its registers for all that.
+    // addi x7,x5,1 of hart 1
     Row {
-        instruction: "addi x7,x5,1 of hart 1",
         seq: 7,
         registers: Some(Registers {
             destination: Some(Destination {
@@ -113,14 +111,14 @@ static ROWS: [Row; 12] = [
         }),
     },
     // It was squashed before it was renamed.
+    // ebreak
     Row {
-        instruction: "ebreak",
         seq: 8,
         registers: None,
     },
     // The register of the squashed number 5, given anew. x0 isn't listed.
+    // addi x5,x0,7
     Row {
-        instruction: "addi x5,x0,7",
         seq: 9,
         registers: Some(Registers {
             destination: Some(Destination {
@@ -130,14 +128,14 @@ static ROWS: [Row; 12] = [
             sources: [None, None],
         }),
     },
+    // addi x5,x0,7 of hart 0
     Row {
-        instruction: "addi x5,x0,7 of hart 0",
         seq: 10,
         registers: None,
     },
     // x5 isn't number 5's, which was squashed, nor number 4's, which is hart 0's.
+    // sw x5,0(x6)
     Row {
-        instruction: "sw x5,0(x6)",
         seq: 11,
         registers: Some(Registers {
             destination: None,
@@ -155,8 +153,8 @@ static ROWS: [Row; 12] = [
             ],
         }),
     },
+    // sw x0,0(x6)
     Row {
-        instruction: "sw x0,0(x6)",
         seq: 13,
         registers: Some(Registers {
             destination: None,
@@ -171,8 +169,8 @@ static ROWS: [Row; 12] = [
         }),
     },
     // Number 4 has retired, and what it wrote stands.
+    // addi x7,x5,1 again
     Row {
-        instruction: "addi x7,x5,1 again",
         seq: 14,
         registers: Some(Registers {
             destination: Some(Destination {
@@ -211,7 +209,7 @@ fn found(place: usize, alloc: Global) -> Option<Option<Registers>> {
 fn registers_are_those_of_the_rename(rt: HostRuntime) {
     for row in &ROWS {
         let is = found(row.seq, rt.alloc()) == Some(row.registers);
-        holds(&rt, row.instruction, is);
+        assert!(rt; is, "at number {}", row.seq);
     }
     // Fifteen instructions were fetched.
     assert!(rt; found(15, rt.alloc()).is_none());

@@ -13,6 +13,7 @@ ghost use Rattle.charts.specs.Whys.{
   is_cross,
   is_crossed,
   is_shown_crossed,
+  paths_text,
   reason_text,
   squash_text,
   why_text,
@@ -161,14 +162,23 @@ fn write_mispredicted<W: Write>(by: u32, to: u32, predicted: u32, out: &mut W) -
     ensures { OnOk result (Appends (W.contents out.old) (W.contents out.new)
         (cause_text 0 by (Mispredicted to predicted))) }
 {
-    let mut text = ArrayString::<64>::new();
+    let mut text = ArrayString::<32>::new();
     text.push_str(" mispredicted by ");
     push_decimal(&mut text, by);
+    out.write_all(text.as_bytes())?;
+    out.write_all(paths_of(to, predicted).as_bytes())
+}
+
+/// Where a hart goes on, and where it was expected to.
+fn paths_of(to: u32, predicted: u32) -> ArrayString<40>
+    ensures { result.bytes ≡ paths_text to predicted }
+{
+    let mut text = ArrayString::new();
     text.push_str(": to ");
     push_hex(&mut text, to, 8);
     text.push_str(", predicted ");
     push_hex(&mut text, predicted, 8);
-    out.write_all(text.as_bytes())
+    text
 }
 
 fn write_replayed<W: Write>(by: u32, out: &mut W) -> io::Result<()>
