@@ -14,7 +14,7 @@ some_is : {A : Type 0} (x y : A) → Some x ≡ Some y → x ≡ y
 some_is x y same = ap (λ (o : Option _). elim o [ None ↦ x | Some z ↦ z ]) same
 
 place_below : (kind : EventKind) (past : List Event) (s p : ℕ) → place kind past s ≡ Some p → p < length past
-place_below kind [] s p found = absurd (grind found)
+place_below kind [] s p found = absurd (grind (arith, found))
 place_below kind (e ∷ past) s p found = elim (cases_Bool (is_event kind e s)) [
   | inl its ↦
       let here : length past ≡ p = some_is (length past) p
