@@ -9,7 +9,7 @@ pub mod OfTestRuns
 pub mod OfCheck
 pub mod OfScript
 pub mod OfChart
-mod OfColumns
+pub mod OfColumns
 mod OfTold
 mod OfEnds
 mod OfNamedAsks

@@ -76,7 +76,7 @@ module _ (chart : ChartCommand) (setup : Setup) (drawn : Drawn) (from to : ℕ) 
     (columned : Columned) (is_sheet : IsSheetOf chart drawn (view_in drawn from to) (sheet_of drawn columned)) where
   pub too_large_between : (place : ℕ) → IsTooLarge chart (sheet_of drawn columned) place
       → IsDrawingRefusal chart drawn (refused.Picture place)
-  too_large_between place is = (from, to, ends, sheet_of drawn columned, is_sheet, is)
+  too_large_between place is = (from, to, ends, (sheet_of drawn columned, is_sheet, is))
 
   pub text_between : (told : Told) (events : List Event) → drawn.events.now ≡ events
       → Fits chart (sheet_of drawn columned) → told.harts ≡ setup.harts
@@ -89,28 +89,30 @@ module _ (chart : ChartCommand) (setup : Setup) (drawn : Drawn) (from to : ℕ) 
     from,
     to,
     ends,
-    sheet_of drawn columned,
-    is_sheet,
-    record {
-      fits = fits;
-      drawing = drawing_with chart drawn columned told;
-      is_drawing = record {
-        rows_are = refl;
-        events_are = refl;
-        columns_are = refl;
-        view_is = refl;
-        width_is = refl;
-        harts_are = harts;
-        marks_are = refl;
-        counters_are = subst
-            (λ all. AreCountersIf (are_counted chart columned.view) setup all columned.columns columned.view
-            told.counters.items)
-            (sym same) counters;
-        registers_are =
-            subst (λ all. AreRegistersIf chart.registers all told.registers.items) (sym same) registers;
-      };
-      is = is;
-    },
+    (
+      sheet_of drawn columned,
+      is_sheet,
+      record {
+        fits = fits;
+        drawing = drawing_with chart drawn columned told;
+        is_drawing = record {
+          rows_are = refl;
+          events_are = refl;
+          columns_are = refl;
+          view_is = refl;
+          width_is = refl;
+          harts_are = harts;
+          marks_are = refl;
+          counters_are = subst
+              (λ all. AreCountersIf (are_counted chart columned.view) setup all columned.columns columned.view
+              told.counters.items)
+              (sym same) counters;
+          registers_are =
+              subst (λ all. AreRegistersIf chart.registers all told.registers.items) (sym same) registers;
+        };
+        is = is;
+      },
+    ),
   )
 
 -- A trace of a history of the core, and what is drawn of it.
@@ -170,20 +172,22 @@ module _ (settings : Settings) (image : ProgramImage) (trace : List ℕ) (chart 
       → IfOk answer (λ status. status ≡ 0)
       → IfOk answer (ChartComesTo settings image trace chart names old new)
   comes_to (Err why) text old new fits is printed zero = tt
-  comes_to (Ok status) text old new fits (from, to, ends, sheet, is_sheet, is) printed zero = record {
+  comes_to (Ok status) text old new fits (from, to, ends, (sheet, is_sheet, is)) printed zero = record {
     history = (read, is_trace, (history, fits));
     drawn = of_drawn (λ setup one. BetweenEnds chart one (IsPrinted chart setup one old new)) (
       from,
       to,
       ends,
-      sheet,
-      is_sheet,
-      record {
-        fits = is.fits;
-        drawing = is.drawing;
-        is_drawing = is.is_drawing;
-        printed = printed_of chart text (chart_text is.drawing) old new is.is printed;
-      },
+      (
+        sheet,
+        is_sheet,
+        record {
+          fits = is.fits;
+          drawing = is.drawing;
+          is_drawing = is.is_drawing;
+          printed = printed_of chart text (chart_text is.drawing) old new is.is printed;
+        },
+      ),
     );
     zero = zero;
   }

@@ -1,6 +1,6 @@
 -- Rows that are placed in columns come by fetch, as they did.
 use Rattle.std.proofs.Common.{◌≡◌, ℕ, suc, ◌<◌, ◌≤◌, Bool, true, false, List, [], ◌∷◌, length, get_or, reverse, map}
-use Rattle.std.proofs.Common.{Option, Some, None, refl, sym, ap, subst, ◌∙◌, arith, inl, inr, absurd}
+use Rattle.std.proofs.Common.{Option, Some, None, refl, sym, ap, subst, ◌∙◌, arith, inl, inr, if◌then◌else◌}
 use Rattle.std.proofs.lemmas.Bool.{cases_Bool}
 use Rattle.std.proofs.lemmas.Grind.{common_steps}
 use Rattle.std.proofs.lemmas.List.{get_or_default, get_or-map, length-map, length-reverse}
@@ -14,7 +14,7 @@ some_is : {A : Type 0} (x y : A) → Some x ≡ Some y → x ≡ y
 some_is x y same = ap (λ (o : Option _). elim o [ None ↦ x | Some z ↦ z ]) same
 
 place_below : (kind : EventKind) (past : List Event) (s p : ℕ) → place kind past s ≡ Some p → p < length past
-place_below kind [] s p found = absurd (grind found)
+place_below kind [] s p found = absurd (grind (arith, found))
 place_below kind (e ∷ past) s p found = elim (cases_Bool (is_event kind e s)) [
   | inl its ↦
       let here : length past ≡ p = some_is (length past) p
@@ -43,7 +43,7 @@ module _ (rows : List Row) (events : List Event) (columns : List ℕ) (table : I
 
   pub placed_by_fetch : AreByFetch (map (placed columns) rows)
   placed_by_fetch i j d least inside =
-      let within : j < length rows = omega (arith, inside, length-map (placed columns) rows) in
+      let within : j < length rows = omega (arith, inside, length-map rows (placed columns)) in
       let one : get_or (map (placed columns) rows) i d ≡ placed columns (get_or rows i d) =
       get_or-map (placed columns) rows i d d (omega (arith, least, within)) in
       let other : get_or (map (placed columns) rows) j d ≡ placed columns (get_or rows j d) =

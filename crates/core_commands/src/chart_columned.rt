@@ -4,7 +4,7 @@ ghost use Rattle.std.specs.Prelude.{◌≡◌, ◌≤◌, IfOk, IfErr, length, r
 ghost use Rattle.numbers.specs.Sizes.{most_events};
 ghost use Rattle.chart_rows.specs.Order.{AreByFetch};
 ghost use Rattle.chart_rows.specs.Rows.{AreRows};
-ghost use Rattle.chart_columns.specs.Tables.{placed_view};
+ghost use Rattle.chart_columns.specs.Tables.{IsTable, placed_view};
 ghost use Rattle.command_parts.specs.declared.refused.Refused.TheVariants.{Memory};
 ghost use Rattle.core_commands.specs.Chart.{AreColumnsAs, IsSheetOf, rows_as};
 ghost use Rattle.core_commands.specs.Drawing.{placed_or, sheet_of};
@@ -77,6 +77,7 @@ fn placed_rows(
     alloc: Global,
 ) -> Result<Option<Vec<Row>>, Refused>
     requires columns { AreColumnsAs wanted drawn.now columns.now }
+    requires table { IsTable columns.now }
     requires rows { AreRows (reverse drawn.now.events.now) drawn.now.rows.now }
     requires by_fetch { AreByFetch drawn.now.rows.now }
     ensures rows { IfOk result

@@ -11,14 +11,12 @@ use Rattle.smt_model.specs.{Setup.Setup, Rules.is_legal}
 use Rattle.smt_model.specs.declared.config.Config.{Config}
 use Rattle.core_state.specs.{Setup.setup_of, View.CoreView}
 use Rattle.smt_core.specs.Shown.{Shown}
-use Rattle.std.specs.Io.KnownBytes.{Appends}
 use Rattle.text_fields.specs.Printing.{Prints}
 use Rattle.scripts.specs.{declared.actions.ScriptWord.ScriptWord, Lines.words_in}
 use Rattle.scripts.specs.Session.{HaveCounted, AreGuessed, HasGuessed, unasked}
-use Rattle.address_labels.specs.Labels.{Marks, no_marks}
-use Rattle.chart_rows.specs.{declared.row.Row.Row, declared.view.View.View, Rows.AreHistory, Rows.AreRows}
-use Rattle.chart_rows.specs.{Order.AreByFetch, Views.view_of}
-use Rattle.charts.specs.{Text.chart_text, Drawings.Drawing}
+use Rattle.chart_rows.specs.{declared.row.Row.Row, Rows.AreHistory, Rows.AreRows}
+use Rattle.chart_rows.specs.{Views.view_of}
+use Rattle.charts.specs.{Text.chart_text}
 use Rattle.prompts.specs.{Kept.Kept, Kept.IsAskedAll, Printed.IsChartOf, Printed.plain_drawing}
 
 -- What was printed into a text of nothing is all of it.
@@ -69,13 +67,6 @@ whole events few =
     let last : min 4294967295 (events - 1) ≡ min (events - 1) (events - 1) = omega (arith, few) in
     ap (λ (n : ℕ). if events == 0 then record { from = 1; to = 0; hart = None }
     else record { from = 0; to = n; hart = None }) last
-
--- What is drawn in columns of events, into a text of nothing.
-pub drawn_plainly : (drawing : Drawing) (events : List Event) (rows : List Row) (start text : List ℕ)
-    → start ≡ [] → (AreByFetch rows → Appends (Some start) (Some text) (chart_text drawing)) → AreByFetch rows
-    → (plain : Drawing) → drawing ≡ plain → text ≡ chart_text plain
-drawn_plainly drawing events rows start text none drawn by_fetch plain same =
-    drawn by_fetch ∙ ap (λ s. s ++ chart_text drawing) none ∙ ap chart_text same
 
 -- The chart of a core is drawn of that list.
 pub chart_is : (core : CoreView) (items events : List Event) (rows : List Row) (text : List ℕ)
