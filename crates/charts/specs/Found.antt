@@ -23,9 +23,7 @@ source_text (Some found) =
     codes " x" ++ (decimal found.register ++ (codes "=p" ++ (decimal found.physical ++ writer_text found.by)))
 
 abbrev pub sources_text : List (Option Source) → List ℕ
-sources_text [] = []
-sources_text (source ∷ []) = source_text source
-sources_text (source ∷ next ∷ others) = source_text source ++ sources_text (next ∷ others)
+sources_text sources = source_text (slice_index_or sources 0 None) ++ source_text (slice_index_or sources 1 None)
 
 -- Those of an instruction, of which none may be known; and of the one with this number.
 abbrev pub found_text : Option Registers → List ℕ

@@ -48,15 +48,22 @@ label_text form places marks pc = labels_text form marks pc ++ spaces (places - 
 abbrev pub field_text : ℕ → List (Option Registers) → ℕ → List ℕ
 field_text places registers number = to_left places (registers_text registers number)
 
--- Hart, number, pc, instruction, what is wanted beside the pc, and the registers, with a space behind each.
-unfoldable pub name_text : Form → Widths → Marks → List (Option Registers) → ℕ → Row → List ℕ
-name_text form widths marks registers number row =
+-- Hart, number, pc and instruction, with a space behind each but the last.
+unfoldable pub place_text : Widths → ℕ → Row → List ℕ
+place_text widths number row =
     to_right widths.hart (decimal row.hart)
     ++ (to_right widths.number (decimal number)
-    ++ ((hex 8 row.pc ++ 32 ∷ [])
-    ++ (to_left widths.instruction (instruction_text row)
-    ++ (label_text form widths.labels marks row.pc
-    ++ (field_text widths.registers registers number ++ 32 ∷ [])))))
+    ++ ((hex 8 row.pc ++ 32 ∷ []) ++ to_left widths.instruction (instruction_text row)))
+
+-- What is wanted beside the pc, the registers, and a space.
+unfoldable pub beside_text : Form → Widths → Marks → List (Option Registers) → ℕ → ℕ → List ℕ
+beside_text form widths marks registers number pc = label_text form widths.labels marks pc
+    ++ (field_text widths.registers registers number ++ 32 ∷ [])
+
+-- The name of a row.
+unfoldable pub name_text : Form → Widths → Marks → List (Option Registers) → ℕ → Row → List ℕ
+name_text form widths marks registers number row =
+    place_text widths number row ++ beside_text form widths marks registers number row.pc
 
 -- ---- How wide names are: as wide as the widest of the rows that are drawn, and as the greatest number of all
 

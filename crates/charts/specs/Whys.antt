@@ -28,12 +28,15 @@ abbrev pub is_shown_crossed : View → ℕ → ℕ → Row → Bool
 is_shown_crossed shown column by row = is_crossed column by row && shows shown row
 
 -- Where a hart goes on, and where it was expected to.
-abbrev pub paths_text : ℕ → ℕ → List ℕ
+unfoldable pub paths_text : ℕ → ℕ → List ℕ
 paths_text to predicted = codes ": to " ++ (hex 8 to ++ (codes ", predicted " ++ hex 8 predicted))
+
+unfoldable pub mispredicted_text : ℕ → List ℕ
+mispredicted_text by = codes " mispredicted by " ++ decimal by
 
 -- Why instructions of a hart were squashed by one of this number.
 abbrev pub cause_text : ℕ → ℕ → Cause → List ℕ
-cause_text hart by (Mispredicted to predicted) = (codes " mispredicted by " ++ decimal by) ++ paths_text to predicted
+cause_text hart by (Mispredicted to predicted) = mispredicted_text by ++ paths_text to predicted
 cause_text hart by Replayed = codes " replayed by " ++ decimal by
 cause_text hart by Ended = codes " hart " ++ (decimal hart ++ codes " ended")
 cause_text hart by Stopped = codes " hart " ++ (decimal hart ++ codes " stopped")

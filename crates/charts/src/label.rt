@@ -10,7 +10,9 @@ ghost use Rattle.charts.specs.Text.{
   field_text,
   instruction_text,
   label_text,
+  beside_text,
   name_text,
+  place_text,
   name_width,
   remark_width,
   spaces,
@@ -147,11 +149,36 @@ impl Widths {
             (name_text named.entry.form self.now (marks_of named.entry.labels.now) named.entry.registers.now
             number row.now)) }
     {
+        self.write_place(row, number, out)?;
+        self.write_beside(row.pc, number, named, out)
+    }
+
+    /// Writes the hart, the number, the pc and the instruction of a row.
+    #[tactic(auto, unfolding(crate::specs::Text::place_text))]
+    fn write_place<W: Write>(&self, row: &Row, number: usize, out: &mut W) -> io::Result<()>
+        ensures { OnOk result (Appends (W.contents out.old) (W.contents out.new)
+            (place_text self.now number row.now)) }
+    {
         write_right(usize::from(row.hart), self.hart, out)?;
         write_right(number, self.number, out)?;
         write_pc(row.pc, out)?;
-        write_instruction(row, self.instruction, out)?;
-        write_label(named, self.labels, row.pc, out)?;
+        write_instruction(row, self.instruction, out)
+    }
+
+    /// Writes what is wanted beside the pc of the row with this number.
+    #[tactic(auto, unfolding(crate::specs::Text::beside_text))]
+    fn write_beside<W: Write>(
+        &self,
+        pc: u32,
+        number: usize,
+        named: Named<'_>,
+        out: &mut W,
+    ) -> io::Result<()>
+        ensures { OnOk result (Appends (W.contents out.old) (W.contents out.new)
+            (beside_text named.entry.form self.now (marks_of named.entry.labels.now) named.entry.registers.now
+            number pc)) }
+    {
+        write_label(named, self.labels, pc, out)?;
         write_field(named.registers, self.registers, number, out)?;
         out.write_all(b" ")
     }

@@ -39,10 +39,9 @@ pub(crate) fn width_of(registers: &[Option<Registers>], number: usize) -> u32
 {
     match registers_at(registers, number) {
         Some(found) => {
-            let [first, second] = found.sources;
             (destination_of(found.destination).len()
-                + source_of(first).len()
-                + source_of(second).len()) as u32
+                + source_of(found.sources[0]).len()
+                + source_of(found.sources[1]).len()) as u32
         }
         None => 0,
     }
@@ -66,10 +65,23 @@ pub(crate) fn write_found<W: Write>(
 fn write_registers<W: Write>(found: Registers, out: &mut W) -> io::Result<()>
     ensures { OnOk result (Appends (W.contents out.old) (W.contents out.new) (found_text (Some found))) }
 {
-    let [first, second] = found.sources;
-    out.write_all(destination_of(found.destination).as_bytes())?;
-    out.write_all(source_of(first).as_bytes())?;
-    out.write_all(source_of(second).as_bytes())
+    write_destination(found.destination, out)?;
+    write_source(found.sources[0], out)?;
+    write_source(found.sources[1], out)
+}
+
+fn write_destination<W: Write>(destination: Option<Destination>, out: &mut W) -> io::Result<()>
+    ensures { OnOk result (Appends (W.contents out.old) (W.contents out.new) (destination_text destination)) }
+{
+    let text = destination_of(destination);
+    out.write_all(text.as_bytes())
+}
+
+fn write_source<W: Write>(source: Option<Source>, out: &mut W) -> io::Result<()>
+    ensures { OnOk result (Appends (W.contents out.old) (W.contents out.new) (source_text source)) }
+{
+    let text = source_of(source);
+    out.write_all(text.as_bytes())
 }
 
 fn registers_at(registers: &[Option<Registers>], number: usize) -> Option<Registers>

@@ -13,6 +13,7 @@ ghost use Rattle.charts.specs.Whys.{
   is_cross,
   is_crossed,
   is_shown_crossed,
+  mispredicted_text,
   paths_text,
   reason_text,
   squash_text,
@@ -162,14 +163,29 @@ fn write_mispredicted<W: Write>(by: u32, to: u32, predicted: u32, out: &mut W) -
     ensures { OnOk result (Appends (W.contents out.old) (W.contents out.new)
         (cause_text 0 by (Mispredicted to predicted))) }
 {
+    write_by(by, out)?;
+    write_paths(to, predicted, out)
+}
+
+#[tactic(auto, unfolding(crate::specs::Whys::mispredicted_text))]
+fn write_by<W: Write>(by: u32, out: &mut W) -> io::Result<()>
+    ensures { OnOk result (Appends (W.contents out.old) (W.contents out.new) (mispredicted_text by)) }
+{
     let mut text = ArrayString::<32>::new();
     text.push_str(" mispredicted by ");
     push_decimal(&mut text, by);
-    out.write_all(text.as_bytes())?;
-    out.write_all(paths_of(to, predicted).as_bytes())
+    out.write_all(text.as_bytes())
+}
+
+fn write_paths<W: Write>(to: u32, predicted: u32, out: &mut W) -> io::Result<()>
+    ensures { OnOk result (Appends (W.contents out.old) (W.contents out.new) (paths_text to predicted)) }
+{
+    let text = paths_of(to, predicted);
+    out.write_all(text.as_bytes())
 }
 
 /// Where a hart goes on, and where it was expected to.
+#[tactic(auto, unfolding(crate::specs::Whys::paths_text))]
 fn paths_of(to: u32, predicted: u32) -> ArrayString<40>
     ensures { result.bytes ≡ paths_text to predicted }
 {
