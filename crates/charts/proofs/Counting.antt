@@ -1,7 +1,7 @@
 -- What the loops over what is counted write.
 use Rattle.std.specs.Prelude.{if◌then◌else◌}
 use Rattle.std.specs.List.{range_with_len}
-use Rattle.std.proofs.Common.{◌≡◌, ℕ, zero, suc, ◌+◌, ◌-◌, ◌<◌, ◌≤◌, max, length, List, [], ◌∷◌, ◌++◌, refl, sym, ap, subst, ◌∙◌, arith}
+use Rattle.std.proofs.Common.{◌≡◌, ℕ, zero, suc, ◌+◌, ◌-◌, ◌<◌, ◌≤◌, max, length, List, [], ◌∷◌, ◌++◌, Bool, true, false, nat_lt, refl, sym, ap, subst, ◌∙◌, arith}
 use Rattle.charts.specs.declared.text.counted.Counter.{Counter}
 use Rattle.charts.specs.Counted.{counter_line, digit_text, height_over, digits_over, blanks_behind, icount_text, icounts_over}
 use Rattle.charts.specs.Counted.{in_flight_over, in_flight_text, lines_from, number_in, chosen_over, chosen_text, places_between}
@@ -63,6 +63,16 @@ module _ (drawing : Drawing) (counter : Counter) (left due column last : ℕ) wh
 
   pub no_height : last < column → height_over drawing counter due (places column last) ≡ due
   no_height above = ap (height_over drawing counter due) (no_place column last above)
+
+at_most_one_more : (b : Bool) (due : ℕ) → (if b then due + 1 else 0) ≤ due + 1
+at_most_one_more true due = omega arith
+at_most_one_more false due = omega arith
+
+-- A column makes one blank more due at the most.
+pub due_behind : (left due blanks from column : ℕ) (number : List ℕ) → from ≤ column → due ≤ blanks + (column - from)
+    → blanks_behind left due number ≤ blanks + (column + 1 - from)
+due_behind left due blanks from column number behind before =
+    omega (arith, behind, before, at_most_one_more (nat_lt (length number) left) due)
 
 module _ (events : List Event) (before : List ℕ) (place to : ℕ) where
   pub next_chosen : place ≤ to → chosen_over events before (places_between place to)

@@ -67,7 +67,7 @@ pub(crate) fn write_counters<W: Write>(
     if chart.counters.is_empty() {
         return out.write_all(b"");
     }
-    let indent = widths.name();
+    let indent = indent_of(*widths);
     write_icounts(chart, band, indent, out)?;
     write_counter(chart, Counter::Chosen, band, indent, out)?;
     write_counter(chart, Counter::Alu, band, indent, out)?;
@@ -75,6 +75,14 @@ pub(crate) fn write_counters<W: Write>(
     write_counter(chart, Counter::Mem, band, indent, out)?;
     write_in_flight(chart, band, indent, out)?;
     write_counter(chart, Counter::Free, band, indent, out)
+}
+
+/// How many places stand before the first column.
+fn indent_of(widths: Widths) -> usize
+    ensures value { result ≡ name_width widths }
+    ensures few { result < 2 ^ 40 }
+{
+    widths.name()
 }
 
 /// ICOUNT of each hart that is drawn.
