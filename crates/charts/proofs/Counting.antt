@@ -1,7 +1,7 @@
 -- What the loops over what is counted write.
 use Rattle.std.specs.Prelude.{if◌then◌else◌}
 use Rattle.std.specs.List.{range_with_len}
-use Rattle.std.proofs.Common.{◌≡◌, ℕ, zero, suc, ◌+◌, ◌-◌, ◌<◌, ◌≤◌, max, length, List, [], ◌∷◌, ◌++◌, Bool, true, false, nat_lt, refl, sym, ap, subst, ◌∙◌, arith}
+use Rattle.std.proofs.Common.{◌≡◌, ℕ, suc, ◌+◌, ◌-◌, ◌<◌, ◌≤◌, max, length, List, [], ◌∷◌, ◌++◌, Bool, true, false, nat_lt, sym, ap, ◌∙◌, arith}
 use Rattle.charts.specs.declared.text.counted.Counter.{Counter}
 use Rattle.charts.specs.Counted.{counter_line, digit_text, height_over, digits_over, blanks_behind, icount_text, icounts_over}
 use Rattle.charts.specs.Counted.{in_flight_over, in_flight_text, lines_from, number_in, chosen_over, chosen_text, places_between}

@@ -67,7 +67,7 @@ pub(crate) fn write_counters<W: Write>(
     if chart.counters.is_empty() {
         return out.write_all(b"");
     }
-    let indent = indent_of(*widths);
+    let indent = indent_of(widths);
     write_icounts(chart, band, indent, out)?;
     write_counter(chart, Counter::Chosen, band, indent, out)?;
     write_counter(chart, Counter::Alu, band, indent, out)?;
@@ -78,11 +78,18 @@ pub(crate) fn write_counters<W: Write>(
 }
 
 /// How many places stand before the first column.
-fn indent_of(widths: Widths) -> usize
-    ensures value { result ≡ name_width widths }
+fn indent_of(widths: &Widths) -> usize
+    ensures value { result ≡ name_width widths.now }
     ensures few { result < 2 ^ 40 }
 {
-    widths.name()
+    same_widths(widths).name()
+}
+
+/// The same widths: as a result, each of them is known to be in its range.
+fn same_widths(widths: &Widths) -> Widths
+    ensures { result ≡ widths.now }
+{
+    *widths
 }
 
 /// ICOUNT of each hart that is drawn.

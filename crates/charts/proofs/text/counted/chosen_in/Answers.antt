@@ -1,6 +1,6 @@
-use Rattle.std.proofs.Common.{◌≤◌, ◌<◌, ◌∙◌, ◌+◌, arith, ap, sym}
+use Rattle.std.proofs.Common.{◌≤◌, ◌∙◌, ◌+◌, arith, ap, sym}
 use Rattle.charts.specs.Counted.{chosen_over, places_between}
-use Rattle.charts.proofs.Counting.{next_chosen, no_chosen}
+use Rattle.charts.proofs.Counting.{next_chosen}
 use Rattle.charts.proofs.text.counted.chosen_in.Goals as goal
 
 pub loop-place-preserved : goal.loop-place-preserved
