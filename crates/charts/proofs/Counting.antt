@@ -15,25 +15,16 @@ next_range : (from to : ℕ) → from < to
 next_range from to below =
     let some : to - from ≡ suc (to - (from + 1)) = omega (arith, below) in ap (range_with_len from) some
 
-no_range : (from to : ℕ) → to ≤ from → range_with_len from (to - from) ≡ []
-no_range from to above = let none : to - from ≡ 0 = omega (arith, above) in ap (range_with_len from) none
-
 module _ (drawing : Drawing) (indent : ℕ) (columns : List ℕ) (hart harts : ℕ) where
   pub next_icount : hart < harts → icounts_over drawing indent columns (range_with_len hart (harts - hart))
       ≡ icount_text drawing indent columns hart
       ++ icounts_over drawing indent columns (range_with_len (hart + 1) (harts - (hart + 1)))
   next_icount below = ap (icounts_over drawing indent columns) (next_range hart harts below)
 
-  pub no_icount : harts ≤ hart → icounts_over drawing indent columns (range_with_len hart (harts - hart)) ≡ []
-  no_icount above = ap (icounts_over drawing indent columns) (no_range hart harts above)
-
   pub next_in_flight : hart < harts → in_flight_over drawing indent columns (range_with_len hart (harts - hart))
       ≡ in_flight_text drawing indent columns hart
       ++ in_flight_over drawing indent columns (range_with_len (hart + 1) (harts - (hart + 1)))
   next_in_flight below = ap (in_flight_over drawing indent columns) (next_range hart harts below)
-
-  pub no_in_flight : harts ≤ hart → in_flight_over drawing indent columns (range_with_len hart (harts - hart)) ≡ []
-  no_in_flight above = ap (in_flight_over drawing indent columns) (no_range hart harts above)
 
 module _ (drawing : Drawing) (counter : Counter) (indent : ℕ) (columns : List ℕ) (tall line : ℕ) where
   pub next_line : line < tall → lines_from drawing counter indent columns (tall - line)
@@ -44,9 +35,6 @@ module _ (drawing : Drawing) (counter : Counter) (indent : ℕ) (columns : List 
       ap (lines_from drawing counter indent columns) some
       ∙ ap (λ left. counter_line drawing counter indent columns left
       ++ lines_from drawing counter indent columns (tall - (line + 1))) (sym some)
-
-  pub no_line : tall ≤ line → lines_from drawing counter indent columns (tall - line) ≡ []
-  no_line above = let none : tall - line ≡ 0 = omega (arith, above) in ap (lines_from drawing counter indent columns) none
 
 module _ (drawing : Drawing) (counter : Counter) (left due column last : ℕ) where
   pub next_digit : column ≤ last → digits_over drawing counter left due (places column last)
@@ -78,6 +66,3 @@ module _ (events : List Event) (before : List ℕ) (place to : ℕ) where
   pub next_chosen : place ≤ to → chosen_over events before (places_between place to)
       ≡ chosen_over events (chosen_text before (slice_get events place)) (places_between (place + 1) to)
   next_chosen below = ap (chosen_over events before) (next_place place to below)
-
-  pub no_chosen : to < place → chosen_over events before (places_between place to) ≡ before
-  no_chosen above = ap (chosen_over events before) (no_place place to above)
