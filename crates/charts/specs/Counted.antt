@@ -1,12 +1,12 @@
 -- Under the rows of a band of a chart, what is counted at its columns. (This project's own choice; docs/FORMATS.md, "The
 -- chart".)
-use Rattle.std.specs.Prelude.{ℕ, zero, suc, ◌+◌, ◌-◌, ◌<◌, ◌==◌, Bool, max, nat_lt, nat_le, if◌then◌else◌, List, [], ◌∷◌, ◌++◌}
+use Rattle.std.specs.Prelude.{ℕ, zero, suc, ◌+◌, ◌-◌, ◌==◌, max, nat_lt, if◌then◌else◌, List, [], ◌∷◌, ◌++◌}
 use Rattle.std.specs.Prelude.{codes, length, replicate, slice_get, slice_index_or, Option, None, Some}
 use Rattle.std.specs.{Fmt.decimal, List.range_with_len}
 use Rattle.text_fields.specs.Spelling.{hex}
 use Rattle.events.specs.declared.event.Event.{Event}
 use Rattle.events.specs.declared.event.Event.TheVariants.{Fetch}
-use Rattle.chart_rows.specs.{declared.view.View.View, Views.draws_hart}
+use Rattle.chart_rows.specs.Views.{draws_hart}
 use Rattle.chart_columns.specs.Tables.{head, last}
 use Rattle.chart_counters.specs.declared.counters.Counters.{Counters}
 use Rattle.charts.specs.declared.text.counted.Counter.{Counter}

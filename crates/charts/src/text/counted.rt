@@ -20,9 +20,7 @@ ghost use Rattle.charts.specs.Counted.{
   digits_over,
   height_over,
   icounts_over,
-  icount_text,
   in_flight_over,
-  in_flight_text,
   name_in,
   name_of,
   number_in,
@@ -67,7 +65,7 @@ pub(crate) fn write_counters<W: Write>(
     if chart.counters.is_empty() {
         return out.write_all(b"");
     }
-    let indent = widths.name();
+    let indent = indent_of(widths);
     write_icounts(chart, band, indent, out)?;
     write_counter(chart, Counter::Chosen, band, indent, out)?;
     write_counter(chart, Counter::Alu, band, indent, out)?;
@@ -75,6 +73,21 @@ pub(crate) fn write_counters<W: Write>(
     write_counter(chart, Counter::Mem, band, indent, out)?;
     write_in_flight(chart, band, indent, out)?;
     write_counter(chart, Counter::Free, band, indent, out)
+}
+
+/// How many places stand before the first column.
+fn indent_of(widths: &Widths) -> usize
+    ensures value { result ≡ name_width widths.now }
+    ensures few { result < 2 ^ 40 }
+{
+    same_widths(widths).name()
+}
+
+/// The same widths: as a result, each of them is known to be in its range.
+fn same_widths(widths: &Widths) -> Widths
+    ensures { result ≡ widths.now }
+{
+    *widths
 }
 
 /// ICOUNT of each hart that is drawn.

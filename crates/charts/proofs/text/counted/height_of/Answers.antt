@@ -11,7 +11,7 @@ loop-column-preserved c =
     let column = c.loop-column.column in
     let below : column ≤ band.to = omega (arith, c.loop-column-test.true) in
     ap (λ n. height_over drawing c.args.counter n (places (column + 1) band.to))
-    (c.greater-tall.ensures ∙ ap (λ text. max c.loop-column.tall (length text)) c.number_in-number.ensures)
+    (c.greater-tall.ensures ∙ ap (max c.loop-column.tall) (c.len.ensures.value ∙ ap length c.number_in-number.ensures))
     ∙ sym (next_height drawing c.args.counter 0 c.loop-column.tall column band.to below) ∙ c.loop-column.invariant
 
 pub returns : goal.returns

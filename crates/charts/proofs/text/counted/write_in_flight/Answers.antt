@@ -1,4 +1,3 @@
-use Rattle.std.proofs.Common.{arith}
 use Rattle.charts.specs.{Drawings.drawing_of, Text.places}
 use Rattle.charts.specs.Counted.{in_flight_text}
 use Rattle.charts.proofs.Counting.{next_in_flight}
