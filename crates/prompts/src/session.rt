@@ -336,7 +336,8 @@ fn chart_of(core: &Core, alloc: Global) -> Result<Vec<u8>, AllocError>
     let events = listed(core.history(), alloc)?;
     let rows = rows_of(events.as_slice(), alloc)?;
     let columns = ColumnTable::events();
-    chart_by(core, events.as_slice(), rows.as_slice(), &columns, alloc)
+    let chart = chart_by(core, events.as_slice(), rows.as_slice(), &columns, alloc)?;
+    Ok(chart)
 }
 
 /// The chart of all events of a history with these rows.
