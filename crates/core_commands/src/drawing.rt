@@ -57,7 +57,8 @@ pub(crate) fn made_of(
         return Err(Refused::Picture(last));
     }
     let told = tell_beside(traced, &columned, chart, alloc)?;
-    draw(drawn, &columned, &told, chart, alloc)
+    let made = draw(drawn, &columned, &told, chart, alloc)?;
+    Ok(made)
 }
 
 /// The last event to which a picture may be drawn, where one is wanted and would be too large.
