@@ -405,10 +405,10 @@ of_list list settings program names lines second = record {
 
 chart_kept : (chart : ChartCommand) (settings : Settings) (program : ProgramImage) (names : Table) (trace : List ℕ)
     (old mid new : Option (List ℕ)) → Keeps mid new
-    → OfDrawn settings program trace chart names (λ drawn. BetweenEnds chart drawn (IsPrinted chart drawn old mid))
-    → OfDrawn settings program trace chart names (λ drawn. BetweenEnds chart drawn (IsPrinted chart drawn old new))
+    → OfDrawn settings program trace chart names (λ setup drawn. BetweenEnds chart drawn (IsPrinted chart setup drawn old mid))
+    → OfDrawn settings program trace chart names (λ setup drawn. BetweenEnds chart drawn (IsPrinted chart setup drawn old new))
 chart_kept chart settings program names trace old mid new flushed
-    (read, is_trace, (history, (drawn, is_drawn, (from, to, ends, so)))) = (
+    (read, is_trace, (history, (drawn, is_drawn, (from, to, ends, (sheet, is_sheet, so))))) = (
       read,
       is_trace,
       (
@@ -420,10 +420,16 @@ chart_kept chart settings program names trace old mid new flushed
             from,
             to,
             ends,
-            record {
-              fits = so.fits;
-              printed = kept old mid new _ so.printed flushed;
-            },
+            (
+              sheet,
+              is_sheet,
+              record {
+                fits = so.fits;
+                drawing = so.drawing;
+                is_drawing = so.is_drawing;
+                printed = kept old mid new _ so.printed flushed;
+              },
+            ),
           ),
         ),
       ),
@@ -505,6 +511,8 @@ of_outcomes outcomes settings program names lines second = record {
       is_found = is.told.is_found;
       told = record {
         text = is.told.told.text;
+        how = is.told.told.how;
+        is_how = is.told.told.is_how;
         why = is.told.told.why;
         is_why = is.told.told.is_why;
         printed = kept old mid new _ is.told.told.printed flushed;

@@ -1,4 +1,4 @@
-use Rattle.std.proofs.Common.{◌≡◌}
+use Rattle.std.proofs.Common.{◌≡◌, false}
 use Rattle.symbols.specs.Tables.{table_of}
 use Rattle.address_labels.specs.Labels.{marks_of, marks_where}
 use Rattle.command_parts.specs.Inputs.{as_read}
@@ -24,3 +24,19 @@ returns-in_ok-script-in-Step g c =
     c.args.settings.now c.args.image.now (table_of c.args.names.now) (origins_in c.args.lines.now) _
     c.of_step-wanted.result (marks_of c.labels_for.result) _ _ c.perform_step.result c.in-Step.step
     c.of_step-wanted.ensures marks came.refused came.ended came.unwanted came.unbroken came.finished came.unreported))
+
+pub returns-in-Outcomes : goal.returns-in-Outcomes
+returns-in-Outcomes g c =
+    let marks : marks_of c.labels_for.result
+    ≡ marks_where false (table_of c.args.names.now) (origins_in c.args.lines.now) =
+    rw c.in-Outcomes.is at c.labels_for.ensures in
+    let came = c.perform_outcomes.ensures in
+    rw c.in-Outcomes.is
+    (record {
+      refused = came.refused;
+      ended = rw marks at came.ended;
+      unwanted = came.unwanted;
+      unbroken = came.unbroken;
+      finished = came.finished;
+      unreported = came.unreported;
+    })
