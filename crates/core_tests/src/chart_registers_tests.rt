@@ -7,12 +7,13 @@ use history_check::check;
 use std::alloc::Global;
 
 /// An instruction, by its number and as a chart would have its registers.
+#[derive(Clone, Copy, Drop)]
 struct Row {
     seq: usize,
     registers: Option<Registers>,
 }
 
-static ROWS: [Row; 12] = [
+const ROWS: [Row; 12] = [
     // lui x6,0x80001
     Row {
         seq: 0,
@@ -207,7 +208,8 @@ fn found(place: usize, alloc: Global) -> Option<Option<Registers>> {
 
 #[test]
 fn registers_are_those_of_the_rename(rt: HostRuntime) {
-    for row in &ROWS {
+    let rows = ROWS;
+    for row in &rows {
         let is = found(row.seq, rt.alloc()) == Some(row.registers);
         assert!(rt; is, "at number {}", row.seq);
     }

@@ -242,7 +242,9 @@ fn found_of(test: &LitmusTest, alloc: Global) -> Option<Outcomes>
 }
 
 /// Asserts what was found of `store_buffering`.
-fn check_store_buffering(rt: &impl Abort, test: &LitmusTest, found: &Outcomes) {
+fn check_store_buffering(rt: &impl Abort, test: &LitmusTest, found: &Outcomes)
+    requires { IsWellFormed test.now }
+{
     holds(rt, "count", found.count() == 3);
     holds(rt, "first", is_row(test, found, 0));
     holds(rt, "second", is_row(test, found, 1));
