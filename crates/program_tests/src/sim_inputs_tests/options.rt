@@ -122,9 +122,13 @@ fn draws(row: &ChartRow, alloc: Global) -> bool {
         return false;
     };
     let named = line.files();
-    [columns_of(&chart), title_of(&chart), shade_of(&chart)] == *texts
-        && [chart.registers, chart.counters] == *flags
-        && [named.written, named.beside] == *files
+    columns_of(&chart) == texts[0]
+        && title_of(&chart) == texts[1]
+        && shade_of(&chart) == texts[2]
+        && chart.registers == flags[0]
+        && chart.counters == flags[1]
+        && named.written == files[0]
+        && named.beside == files[1]
 }
 
 #[test]
